@@ -130,7 +130,7 @@ impl Worker<'_> {
         let value = format!("{}.{time}", self.number);
         shared.table.insert(key.clone(), value.clone());
         drop(shared);
-        records::put(&mut self.batch, time, time, key.as_bytes(), &[Column::new(0, value.as_bytes())])?;
+        records::put(&mut self.batch, Format::One, time, time, key.as_bytes(), &[Column::new(0, value.as_bytes())])?;
         say(format!("put {key} {time} {value}\n"))?;
         self.waiting.push(Update { time, key, value });
         Ok(())

@@ -143,12 +143,14 @@ uint32_t mtr_report_nameless(mtr_place *store, size_t i, uint64_t *part);
 /* What becomes of a log if a server resumes. */
 typedef struct mtr_resumed {
     uint64_t dropped; /* its updates at or past the cutoff, which go */
+    uint32_t format;  /* its format, 1 to 3, in which records go on */
     bool changed;     /* whether the bytes differ from the log's */
+    bool ended;       /* whether a mark at 2^64 - 1 ends them: go on in another log */
 } mtr_resumed;
 
 /* What replaces a log if a server resumes after a recovery with this cutoff: its header, with a `from` of at most the
  * cutoff; its records below the cutoff; a mark at the cutoff; and the mark that ends the log, if it was ended. A new log
- * begins with mtr_log_header_1(0, ..) and mtr_mark(cutoff, ..). DONE or SHORT: *resumed is told. Else it is as before.
+ * begins with mtr_log_header(1, 0, ..) and mtr_mark(cutoff, ..). DONE or SHORT: *resumed is told. Else it is as before.
  * FAULT: the bytes are no log. Never WRONG. */
 uint32_t mtr_resume_log(const uint8_t *log, size_t length, uint64_t cutoff, mtr_resumed *resumed, uint8_t *out,
                         size_t room, size_t *count);
@@ -200,7 +202,7 @@ uint32_t mtr_fault_text(const mtr_fault *fault, uint8_t *out, size_t room, size_
 
 /* What a library is. */
 typedef struct mtr_versions {
-    uint32_t library;     /* its version: 1 */
+    uint32_t library;     /* its version: 2 */
     uint32_t log_format;  /* the greatest format of logs that it knows: 3 */
     uint32_t part_format; /* the greatest format of parts that it knows: 2 */
 } mtr_versions;
@@ -208,7 +210,7 @@ typedef struct mtr_versions {
 /* Tells these of the library that is linked. */
 void mtr_version(mtr_versions *versions);
 
-/* A column: its number, at most 63, and its value, lent for the call. */
+/* A column: its number and its value, lent for the call. */
 typedef struct mtr_column {
     uint8_t number;
     struct {
@@ -217,11 +219,16 @@ typedef struct mtr_column {
     } value;
 } mtr_column;
 
-/* Each of the following functions writes one encoding. */
+/* Each of the following functions writes one encoding. `format` is that of the file that it is for, whose header says it:
+ *
+ *   format | of              | keys, up to | columns | values, up to | erases
+ *        1 | logs, parts     | 1,024 bytes | 0 to 15 | 65,535 bytes  | no
+ *        2 | logs, parts     | 4,096 bytes | 0 to 63 | 65,535 bytes  | yes
+ *        3 | logs (segments) | as 2 */
 
-/* The header of a log of format 1 or 2. Updates below the timestamp `from` may be missing from the log. Never WRONG. */
-uint32_t mtr_log_header_1(uint64_t from, uint8_t *out, size_t room, size_t *count);
-uint32_t mtr_log_header_2(uint64_t from, uint8_t *out, size_t room, size_t *count);
+/* The header of a log of format 1 or 2. Updates below the timestamp `from` may be missing from the log. WRONG: another
+ * format. */
+uint32_t mtr_log_header(uint32_t format, uint64_t from, uint8_t *out, size_t room, size_t *count);
 
 /* The header of a segment of a worker's log, which is of format 3. Never WRONG. */
 uint32_t mtr_segment_header(uint64_t from, uint32_t worker, uint32_t segment, uint8_t *out, size_t room, size_t *count);
@@ -229,29 +236,26 @@ uint32_t mtr_segment_header(uint64_t from, uint32_t worker, uint32_t segment, ui
 /* A mark. Never WRONG. */
 uint32_t mtr_mark(uint64_t time, uint8_t *out, size_t room, size_t *count);
 
-/* A put of these columns of the key. WRONG: version 0, a key or value that is too long, no column, or numbers that do
- * not rise. */
-uint32_t mtr_put(uint64_t time, uint64_t version, const uint8_t *key, size_t key_length, const mtr_column *columns,
-                 size_t column_count, uint8_t *out, size_t room, size_t *count);
+/* A put of these columns of the key. WRONG: no format of logs, version 0, no column, numbers that do not rise, or what the
+ * format does not have. */
+uint32_t mtr_put(uint32_t format, uint64_t time, uint64_t version, const uint8_t *key, size_t key_length,
+                 const mtr_column *columns, size_t column_count, uint8_t *out, size_t room, size_t *count);
 
-/* A remove of the key. WRONG: version 0, or a key that is too long. */
-uint32_t mtr_remove(uint64_t time, uint64_t version, const uint8_t *key, size_t key_length, uint8_t *out, size_t room,
-                    size_t *count);
+/* A remove of the key. WRONG: as for mtr_put. */
+uint32_t mtr_remove(uint32_t format, uint64_t time, uint64_t version, const uint8_t *key, size_t key_length,
+                    uint8_t *out, size_t room, size_t *count);
 
-/* An erase of the columns of the key that have these numbers. WRONG: version 0, a key that is too long, no number, or
- * numbers that do not rise. */
-uint32_t mtr_erase(uint64_t time, uint64_t version, const uint8_t *key, size_t key_length, const uint8_t *numbers,
-                   size_t number_count, uint8_t *out, size_t room, size_t *count);
+/* An erase of the columns of the key that have these numbers. WRONG: as for mtr_put. */
+uint32_t mtr_erase(uint32_t format, uint64_t time, uint64_t version, const uint8_t *key, size_t key_length,
+                   const uint8_t *numbers, size_t number_count, uint8_t *out, size_t room, size_t *count);
 
 /* The header of a part of format 1 or 2: part `part` of the `parts` parts of checkpoint `number`, which begins at the
- * timestamp `begin`. Never WRONG. */
-uint32_t mtr_part_header_1(uint32_t number, uint64_t begin, uint16_t part, uint16_t parts, uint8_t *out, size_t room,
-                           size_t *count);
-uint32_t mtr_part_header_2(uint32_t number, uint64_t begin, uint16_t part, uint16_t parts, uint8_t *out, size_t room,
-                           size_t *count);
+ * timestamp `begin`. WRONG: another format. */
+uint32_t mtr_part_header(uint32_t format, uint32_t number, uint64_t begin, uint16_t part, uint16_t parts, uint8_t *out,
+                         size_t room, size_t *count);
 
-/* The entry of a key with these columns. WRONG: as for mtr_put. */
-uint32_t mtr_entry(uint64_t version, const uint8_t *key, size_t key_length, const mtr_column *columns,
+/* The entry of a key with these columns. WRONG: as for mtr_put, by the formats of parts. */
+uint32_t mtr_entry(uint32_t format, uint64_t version, const uint8_t *key, size_t key_length, const mtr_column *columns,
                    size_t column_count, uint8_t *out, size_t room, size_t *count);
 
 /* The footer of a part with `entries` entries. Its checkpoint ends at the timestamp `end`. Never WRONG. */

@@ -57,8 +57,8 @@ static void test_log(void) {
     mtr_column column = {0, {text("x"), 1}};
     size_t count = 0;
     length = 0;
-    append(mtr_log_header_1(0, rest(), room(), &count), &count, 12);
-    append(mtr_put(3, 1, text("a"), 1, &column, 1, rest(), room(), &count), &count, 33);
+    append(mtr_log_header(1, 0, rest(), room(), &count), &count, 12);
+    append(mtr_put(1, 3, 1, text("a"), 1, &column, 1, rest(), room(), &count), &count, 33);
     append(mtr_mark(5, rest(), room(), &count), &count, 17);
     expect("a log", length == sizeof expected - 1 && memcmp(file, expected, length) == 0);
 }
@@ -71,8 +71,8 @@ static void test_part(void) {
     mtr_column columns[] = {{0, {text("o"), 1}}, {1, {text("p"), 1}}};
     size_t count = 0;
     length = 0;
-    append(mtr_part_header_1(1, 2, 0, 1, rest(), room(), &count), &count, 20);
-    append(mtr_entry(1, text("a"), 1, columns, 2, rest(), room(), &count), &count, 28);
+    append(mtr_part_header(1, 1, 2, 0, 1, rest(), room(), &count), &count, 20);
+    append(mtr_entry(1, 1, text("a"), 1, columns, 2, rest(), room(), &count), &count, 28);
     append(mtr_part_footer(4, 1, rest(), room(), &count), &count, 16);
     expect("a part", length == sizeof expected - 1 && memcmp(file, expected, length) == 0);
 }
@@ -86,14 +86,14 @@ static void test_others(void) {
     size_t count = 0;
     length = 0;
     append(mtr_segment_header(7, 2, 1, rest(), room(), &count), &count, 20);
-    append(mtr_remove(8, 4, text("b"), 1, rest(), room(), &count), &count, 28);
-    append(mtr_erase(9, 5, text("b"), 1, &number, 1, rest(), room(), &count), &count, 30);
+    append(mtr_remove(3, 8, 4, text("b"), 1, rest(), room(), &count), &count, 28);
+    append(mtr_erase(3, 9, 5, text("b"), 1, &number, 1, rest(), room(), &count), &count, 30);
     expect("a segment", length == sizeof expected - 1 && memcmp(file, expected, length) == 0);
     length = 0;
-    append(mtr_log_header_2(0, rest(), room(), &count), &count, 12);
+    append(mtr_log_header(2, 0, rest(), room(), &count), &count, 12);
     expect("a log of format 2", memcmp(file, "MTL2", 4) == 0);
     length = 0;
-    append(mtr_part_header_2(1, 2, 0, 1, rest(), room(), &count), &count, 20);
+    append(mtr_part_header(2, 1, 2, 0, 1, rest(), room(), &count), &count, 20);
     expect("a part of format 2", memcmp(file, "MTC2", 4) == 0);
 }
 
@@ -103,10 +103,52 @@ static void test_refusals(void) {
     size_t count = 0;
     expect("a short buffer is told", mtr_mark(1, out, sizeof out, &count) == MTR_SHORT && count == 17);
     expect("no buffer is short", mtr_mark(1, NULL, 0, &count) == MTR_SHORT && count == 17);
-    expect("version 0 is refused", mtr_remove(1, 0, text("k"), 1, out, sizeof out, &count) == MTR_WRONG);
-    expect("no columns are refused", mtr_put(1, 1, text("k"), 1, NULL, 0, out, sizeof out, &count) == MTR_WRONG);
-    expect("one number twice is refused", mtr_entry(1, text("k"), 1, columns, 2, out, sizeof out, &count) == MTR_WRONG);
+    expect("version 0 is refused", mtr_remove(1, 1, 0, text("k"), 1, out, sizeof out, &count) == MTR_WRONG);
+    expect("no columns are refused", mtr_put(1, 1, 1, text("k"), 1, NULL, 0, out, sizeof out, &count) == MTR_WRONG);
+    expect("one number twice is refused",
+           mtr_entry(1, 1, text("k"), 1, columns, 2, out, sizeof out, &count) == MTR_WRONG);
     expect("nothing is written", out[0] == 9 && out[1] == 9 && out[2] == 9 && out[3] == 9);
+}
+
+/* Whether this is refused, and told nothing. */
+static int refuses(uint32_t status, const size_t *count) { return status == MTR_WRONG && *count == 7; }
+
+/* What a log of each format, and what a part of each, refuses. */
+static void test_formats(void) {
+    static const uint8_t key[4097], value[65536];
+    static uint8_t out[70000];
+    mtr_column column = {15, {value, 65535}}, longer = {0, {value, 65536}};
+    uint32_t format;
+    size_t count = 0;
+    for (format = 1; format <= 3; format++) {
+        size_t most = format == 1 ? 1024 : 4096;
+        column.number = format == 1 ? 15 : 63;
+        expect("a greatest put", mtr_put(format, 1, 1, key, most, &column, 1, out, sizeof out, &count) == MTR_DONE);
+        expect("an erase", mtr_erase(format, 1, 1, key, most, &column.number, 1, out, sizeof out, &count) ==
+                               (format == 1 ? MTR_WRONG : MTR_DONE));
+        expect("a greatest entry", mtr_entry(format, 1, key, most, &column, 1, out, sizeof out, &count) ==
+                                       (format == 3 ? MTR_WRONG : MTR_DONE));
+        count = 7;
+        expect("a longer key",
+               refuses(mtr_remove(format, 1, 1, key, most + 1, out, sizeof out, &count), &count) &&
+                   refuses(mtr_entry(format, 1, key, most + 1, &column, 1, out, sizeof out, &count), &count));
+        expect("a longer value", refuses(mtr_put(format, 1, 1, key, 1, &longer, 1, out, sizeof out, &count), &count));
+        column.number++;
+        expect("a greater column",
+               refuses(mtr_put(format, 1, 1, key, 1, &column, 1, out, sizeof out, &count), &count) &&
+                   refuses(mtr_erase(format, 1, 1, key, 1, &column.number, 1, out, sizeof out, &count), &count) &&
+                   refuses(mtr_entry(format, 1, key, 1, &column, 1, out, sizeof out, &count), &count));
+    }
+    for (format = 0; format <= 4; format++) {
+        count = 7;
+        expect("a header of another format",
+               (format == 1 || format == 2) ||
+                   (refuses(mtr_log_header(format, 0, out, sizeof out, &count), &count) &&
+                    refuses(mtr_part_header(format, 1, 2, 0, 1, out, sizeof out, &count), &count)));
+        expect("a record of another format",
+               (format >= 1 && format <= 3) ||
+                   refuses(mtr_remove(format, 1, 1, key, 1, out, sizeof out, &count), &count));
+    }
 }
 
 static void test_memory(void) {
@@ -117,7 +159,7 @@ static void test_memory(void) {
     for (allowed = 0; status == MTR_MEMORY && allowed < 64; allowed++) {
         memset(out, 9, sizeof out);
         left = allowed;
-        status = mtr_put(1, 1, text("k"), 1, columns, 2, out, sizeof out, &count);
+        status = mtr_put(1, 1, 1, text("k"), 1, columns, 2, out, sizeof out, &count);
         left = SIZE_MAX;
         expect("a failed allocation writes nothing", status == MTR_DONE || (status == MTR_MEMORY && out[0] == 9));
     }
@@ -236,6 +278,23 @@ static mtr_place example_store(void) {
     mtr_fault fault = {0};
     expect("a store", recover_examples(&store, 64, &fault) == MTR_DONE);
     return store;
+}
+
+/* A log of format 1 is asked to take what only format 2 has: it is refused, and the log is read to its end. */
+static void test_one_format(void) {
+    mtr_place store = {0};
+    mtr_fault fault = {0};
+    mtr_column column = {0, {text("x"), 1}};
+    uint8_t number = 0;
+    size_t count = 0;
+    length = 0;
+    append(mtr_log_header(1, 0, rest(), room(), &count), &count, 12);
+    append(mtr_put(1, 3, 1, text("a"), 1, &column, 1, rest(), room(), &count), &count, 33);
+    expect("no erase", mtr_erase(1, 4, 2, text("a"), 1, &number, 1, rest(), room(), &count) == MTR_WRONG);
+    append(mtr_mark(5, rest(), room(), &count), &count, 17);
+    expect("a log", add_bytes(&store, 0, file, length, 64) == MTR_DONE && mtr_recover(&store, &fault) == MTR_DONE);
+    expect("the put", has(&store, "a", 0, "x"));
+    mtr_free(&store);
 }
 
 static void test_report(void) {
@@ -451,12 +510,12 @@ static void test_share(void) {
 
 static void test_resume(void) {
     static const uint8_t mark[] = "\0\0\0\x09\x03\0\0\0\0\0\0\0\x29\0\0\0\x09";
-    mtr_resumed resumed = {9, true};
+    mtr_resumed resumed = {9, 9, true, true};
     uint8_t out[256] = {9};
     size_t count = 0;
     expect("a log is as it was", mtr_resume_log(examples[0].bytes, examples[0].length, 40, &resumed, out, 256, &count) ==
                                      MTR_DONE && count == 138 && resumed.dropped == 0 && !resumed.changed &&
-                                     memcmp(out, examples[0].bytes, count) == 0);
+                                     resumed.format == 1 && !resumed.ended && memcmp(out, examples[0].bytes, count) == 0);
     expect("a log is replaced", mtr_resume_log(examples[1].bytes, examples[1].length, 41, &resumed, out, 256, &count) ==
                                     MTR_DONE && count == 139 && resumed.dropped == 1 && resumed.changed &&
                                     memcmp(out, examples[1].bytes, 122) == 0 && memcmp(out + 122, mark, 17) == 0);
@@ -465,6 +524,11 @@ static void test_resume(void) {
     expect("short", mtr_resume_log(examples[1].bytes, examples[1].length, 40, &resumed, out, 138, &count) == MTR_SHORT &&
                         count == 139 && resumed.dropped == 1 && out[0] == 9);
     expect("no log", mtr_resume_log(text("x"), 1, 40, &resumed, out, 256, &count) == MTR_FAULT && resumed.dropped == 1);
+    length = 0;
+    append(mtr_segment_header(7, 2, 1, rest(), room(), &count), &count, 20);
+    append(mtr_mark(UINT64_MAX, rest(), room(), &count), &count, 17);
+    expect("an ended segment", mtr_resume_log(file, length, 40, &resumed, out, 256, &count) == MTR_DONE && count == 54 &&
+                                   resumed.format == 3 && resumed.ended);
 }
 
 static int says(uint32_t kind, uint32_t what, uint64_t index, uint64_t record, const char *words) {
@@ -488,7 +552,7 @@ static void test_words(void) {
     fault.what = 1;
     expect("no record's", mtr_fault_text(&fault, out, sizeof out, &count) == MTR_WRONG);
     mtr_version(&versions);
-    expect("versions", versions.library == 1 && versions.log_format == 3 && versions.part_format == 2);
+    expect("versions", versions.library == 2 && versions.log_format == 3 && versions.part_format == 2);
 }
 
 static int is_fault(const mtr_fault *fault, uint32_t kind, uint32_t what, uint64_t index, uint64_t record) {
@@ -633,9 +697,11 @@ int main(int argc, char **argv) {
     test_part();
     test_others();
     test_refusals();
+    test_formats();
     test_memory();
     read_examples(argc > 1 ? argv[1] : ".");
     test_recovery();
+    test_one_format();
     test_report();
     test_tasks();
     test_job();

@@ -16,12 +16,12 @@ static size_t key_of(unsigned number, uint8_t *key) { return (size_t)sprintf((ch
 static bool feed_log(mtr_place *inputs) {
     mtr_place feed = {0};
     size_t length = 0, count = 0;
-    bool is_done = mtr_log_header_1(0, log_bytes, sizeof log_bytes, &count) == MTR_DONE;
+    bool is_done = mtr_log_header(1, 0, log_bytes, sizeof log_bytes, &count) == MTR_DONE;
     for (unsigned n = 1; is_done && n <= KEYS; n++) {
         uint8_t key[KEY];
         mtr_column column = {0, {key, key_of(n, key)}};
         length += count;
-        is_done = mtr_put(n, n, key, column.value.length, &column, 1, log_bytes + length, sizeof log_bytes - length,
+        is_done = mtr_put(1, n, n, key, column.value.length, &column, 1, log_bytes + length, sizeof log_bytes - length,
                           &count) == MTR_DONE;
     }
     length += count;

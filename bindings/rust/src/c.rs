@@ -81,7 +81,9 @@ pub struct RawReport {
 #[derive(Clone, Copy, Default)]
 pub struct RawResumed {
     pub dropped: u64,
+    pub format: u32,
     pub changed: bool,
+    pub ended: bool,
 }
 
 #[repr(C)]
@@ -92,7 +94,7 @@ pub struct RawVersions {
     pub part_format: u32,
 }
 
-/// A column to be written: its number, at most 63, and its value.
+/// A column to be written: its number and its value.
 #[repr(C)]
 #[derive(Clone, Copy, Debug)]
 pub struct Column<'a> {
@@ -185,8 +187,7 @@ extern "C" {
     pub fn mtr_free(place: *mut RawPlace);
     pub fn mtr_fault_text(fault: *const RawFault, out: *mut u8, room: usize, count: *mut usize) -> u32;
     pub fn mtr_version(versions: *mut RawVersions);
-    pub fn mtr_log_header_1(from: u64, out: *mut u8, room: usize, count: *mut usize) -> u32;
-    pub fn mtr_log_header_2(from: u64, out: *mut u8, room: usize, count: *mut usize) -> u32;
+    pub fn mtr_log_header(format: u32, from: u64, out: *mut u8, room: usize, count: *mut usize) -> u32;
     pub fn mtr_segment_header(
         from: u64,
         worker: u32,
@@ -197,6 +198,7 @@ extern "C" {
     ) -> u32;
     pub fn mtr_mark(time: u64, out: *mut u8, room: usize, count: *mut usize) -> u32;
     pub fn mtr_put(
+        format: u32,
         time: u64,
         version: u64,
         key: *const u8,
@@ -208,6 +210,7 @@ extern "C" {
         count: *mut usize,
     ) -> u32;
     pub fn mtr_remove(
+        format: u32,
         time: u64,
         version: u64,
         key: *const u8,
@@ -217,6 +220,7 @@ extern "C" {
         count: *mut usize,
     ) -> u32;
     pub fn mtr_erase(
+        format: u32,
         time: u64,
         version: u64,
         key: *const u8,
@@ -227,16 +231,8 @@ extern "C" {
         room: usize,
         count: *mut usize,
     ) -> u32;
-    pub fn mtr_part_header_1(
-        number: u32,
-        begin: u64,
-        part: u16,
-        parts: u16,
-        out: *mut u8,
-        room: usize,
-        count: *mut usize,
-    ) -> u32;
-    pub fn mtr_part_header_2(
+    pub fn mtr_part_header(
+        format: u32,
         number: u32,
         begin: u64,
         part: u16,
@@ -246,6 +242,7 @@ extern "C" {
         count: *mut usize,
     ) -> u32;
     pub fn mtr_entry(
+        format: u32,
         version: u64,
         key: *const u8,
         key_length: usize,

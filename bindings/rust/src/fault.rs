@@ -102,7 +102,7 @@ pub enum Error {
 #[derive(Clone, Copy, Debug, PartialEq, Eq)]
 pub enum WriteError {
     OutOfMemory,
-    /// Version 0, a key or value that is too long, no column, or numbers of columns that do not rise.
+    /// Version 0, no column, numbers of columns that do not rise, or what the format does not have.
     NotLawful,
     /// The bytes that were to be replaced are no log.
     NoLog,

@@ -12,7 +12,7 @@
 //!
 //! let mut log = Vec::new();
 //! records::log_header(&mut log, Format::One, 0)?;
-//! records::put(&mut log, 3, 1, b"fig", &[Column::new(0, b"green"), Column::new(1, b"ripe")])?;
+//! records::put(&mut log, Format::One, 3, 1, b"fig", &[Column::new(0, b"green"), Column::new(1, b"ripe")])?;
 //! records::mark(&mut log, 5)?;
 //!
 //! let store = mtrecover::recover(&[&log], &[])?;

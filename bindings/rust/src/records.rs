@@ -8,11 +8,12 @@ use crate::{OutOfMemory, WriteError};
 
 pub use crate::c::Column;
 
-/// A format of logs without segments, and of parts.
+/// A format of logs and parts. Segments have the records of format 2.
 #[derive(Clone, Copy, Debug, PartialEq, Eq)]
 pub enum Format {
-    /// Without erases, and with smaller limits.
-    One,
+    /// Keys of at most 1,024 bytes, columns 0 to 15, no erases.
+    One = 1,
+    /// Keys of at most 4,096 bytes, columns 0 to 63, erases.
     Two,
 }
 
@@ -21,8 +22,12 @@ pub enum Format {
 pub struct Resumed {
     /// Its updates at or past the cutoff, which are gone.
     pub dropped: u64,
+    /// The format in which its records go on.
+    pub format: Format,
     /// Whether the bytes are others now.
     pub changed: bool,
+    /// Whether a mark at 2^64 - 1 ends them, so that records go on in another log.
+    pub ended: bool,
 }
 
 /// Appends what a call writes: it is told where, and how many bytes there is room for. Returns its last status.
@@ -57,12 +62,9 @@ fn write(out: &mut Vec<u8>, call: impl FnMut(*mut u8, usize, *mut usize) -> u32)
 // After `Err` each of these functions leaves `out` as it was.
 // SAFETY: slices are lent for the call, and `append` says where and how much may be written.
 
-/// Appends a log's header. Updates below the timestamp `from` may be missing from the log.
+/// Appends the header of a log that is no segment. Updates below the timestamp `from` may be missing from the log.
 pub fn log_header(out: &mut Vec<u8>, format: Format, from: u64) -> Result<(), OutOfMemory> {
-    done(append(out, |at, room, count| match format {
-        Format::One => unsafe { c::mtr_log_header_1(from, at, room, count) },
-        Format::Two => unsafe { c::mtr_log_header_2(from, at, room, count) },
-    }))
+    done(append(out, |at, room, count| unsafe { c::mtr_log_header(format as u32, from, at, room, count) }))
 }
 
 /// Appends the header of a segment of a worker's log.
@@ -75,22 +77,40 @@ pub fn mark(out: &mut Vec<u8>, time: u64) -> Result<(), OutOfMemory> {
     done(append(out, |at, room, count| unsafe { c::mtr_mark(time, at, room, count) }))
 }
 
-/// Appends a put of these columns, whose numbers rise.
-pub fn put(out: &mut Vec<u8>, time: u64, version: u64, key: &[u8], columns: &[Column]) -> Result<(), WriteError> {
+/// Appends a put of these columns, whose numbers rise, to a log of this format.
+pub fn put(
+    out: &mut Vec<u8>,
+    format: Format,
+    time: u64,
+    version: u64,
+    key: &[u8],
+    columns: &[Column],
+) -> Result<(), WriteError> {
+    let (format, length, n) = (format as u32, key.len(), columns.len());
     write(out, |at, room, count| unsafe {
-        c::mtr_put(time, version, key.as_ptr(), key.len(), columns.as_ptr(), columns.len(), at, room, count)
+        c::mtr_put(format, time, version, key.as_ptr(), length, columns.as_ptr(), n, at, room, count)
     })
 }
 
-/// Appends a remove of the key.
-pub fn remove(out: &mut Vec<u8>, time: u64, version: u64, key: &[u8]) -> Result<(), WriteError> {
-    write(out, |at, room, count| unsafe { c::mtr_remove(time, version, key.as_ptr(), key.len(), at, room, count) })
+/// Appends a remove of the key to a log of this format.
+pub fn remove(out: &mut Vec<u8>, format: Format, time: u64, version: u64, key: &[u8]) -> Result<(), WriteError> {
+    write(out, |at, room, count| unsafe {
+        c::mtr_remove(format as u32, time, version, key.as_ptr(), key.len(), at, room, count)
+    })
 }
 
-/// Appends an erase of the columns with these numbers, which rise. Logs of format 1 may not have it.
-pub fn erase(out: &mut Vec<u8>, time: u64, version: u64, key: &[u8], numbers: &[u8]) -> Result<(), WriteError> {
+/// Appends an erase of the columns with these numbers, which rise, to a log of this format.
+pub fn erase(
+    out: &mut Vec<u8>,
+    format: Format,
+    time: u64,
+    version: u64,
+    key: &[u8],
+    numbers: &[u8],
+) -> Result<(), WriteError> {
+    let (format, length, n) = (format as u32, key.len(), numbers.len());
     write(out, |at, room, count| unsafe {
-        c::mtr_erase(time, version, key.as_ptr(), key.len(), numbers.as_ptr(), numbers.len(), at, room, count)
+        c::mtr_erase(format, time, version, key.as_ptr(), length, numbers.as_ptr(), n, at, room, count)
     })
 }
 
@@ -103,16 +123,22 @@ pub fn part_header(
     part: u16,
     parts: u16,
 ) -> Result<(), OutOfMemory> {
-    done(append(out, |at, room, count| match format {
-        Format::One => unsafe { c::mtr_part_header_1(number, begin, part, parts, at, room, count) },
-        Format::Two => unsafe { c::mtr_part_header_2(number, begin, part, parts, at, room, count) },
+    done(append(out, |at, room, count| unsafe {
+        c::mtr_part_header(format as u32, number, begin, part, parts, at, room, count)
     }))
 }
 
-/// Appends the entry of a key with these columns, whose numbers rise.
-pub fn entry(out: &mut Vec<u8>, version: u64, key: &[u8], columns: &[Column]) -> Result<(), WriteError> {
+/// Appends the entry of a key with these columns, whose numbers rise, to a part of this format.
+pub fn entry(
+    out: &mut Vec<u8>,
+    format: Format,
+    version: u64,
+    key: &[u8],
+    columns: &[Column],
+) -> Result<(), WriteError> {
+    let (format, length, n) = (format as u32, key.len(), columns.len());
     write(out, |at, room, count| unsafe {
-        c::mtr_entry(version, key.as_ptr(), key.len(), columns.as_ptr(), columns.len(), at, room, count)
+        c::mtr_entry(format, version, key.as_ptr(), length, columns.as_ptr(), n, at, room, count)
     })
 }
 
@@ -128,5 +154,6 @@ pub fn resume_log(out: &mut Vec<u8>, log: &[u8], cutoff: u64) -> Result<Resumed,
     write(out, |at, room, count| unsafe {
         c::mtr_resume_log(log.as_ptr(), log.len(), cutoff, &mut raw, at, room, count)
     })?;
-    Ok(Resumed { dropped: raw.dropped, changed: raw.changed })
+    let format = if raw.format == 1 { Format::One } else { Format::Two };
+    Ok(Resumed { dropped: raw.dropped, format, changed: raw.changed, ended: raw.ended })
 }

@@ -59,6 +59,9 @@ struct Input {
 
 type Names<'a> = HashMap<&'a str, Vec<u8>>;
 
+/// The format of all records and entries, as cases put into a file also what its format does not have.
+const WIDEST: Format = Format::Two;
+
 fn format_of(words: &[&str]) -> Format {
     if let ["format", "2"] = words {
         Format::Two
@@ -111,17 +114,17 @@ impl Input {
         match words {
             ["mark", time] => records::mark(out, number(time)).unwrap(),
             ["put", key, version, time, ..] => {
-                records::put(out, number(time), number(version), &bytes_of(key), &columns).unwrap()
+                records::put(out, WIDEST, number(time), number(version), &bytes_of(key), &columns).unwrap()
             }
             ["remove", key, version, time] => {
-                records::remove(out, number(time), number(version), &bytes_of(key)).unwrap()
+                records::remove(out, WIDEST, number(time), number(version), &bytes_of(key)).unwrap()
             }
             ["erase", key, version, time, numbers @ ..] => {
                 let numbers: Vec<u8> = numbers.iter().map(|word| number(word)).collect();
-                records::erase(out, number(time), number(version), &bytes_of(key), &numbers).unwrap()
+                records::erase(out, WIDEST, number(time), number(version), &bytes_of(key), &numbers).unwrap()
             }
             ["entry", key, version, ..] => {
-                records::entry(out, number(version), &bytes_of(key), &columns).unwrap();
+                records::entry(out, WIDEST, number(version), &bytes_of(key), &columns).unwrap();
                 self.open.as_mut().unwrap().1 += 1;
             }
             ["fail", call] => self.fails = number(call),

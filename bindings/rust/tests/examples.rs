@@ -1,6 +1,6 @@
 //! Each function of the crate, over examples/ of the repository, whose store README.md and docs/WALKTHROUGH.md show.
 
-use mtrecover::records::{self, Column, Format};
+use mtrecover::records::{self, Column, Format, Resumed};
 use mtrecover::{Error, Fault, Feed, Inputs, Pair, Store, What, WriteError};
 use std::fs;
 use std::ops::RangeBounds;
@@ -145,7 +145,7 @@ fn many_pairs_are_walked_in_order() {
     let mut log = Vec::new();
     records::log_header(&mut log, Format::One, 0).unwrap();
     for n in 1..=1000_u64 {
-        records::put(&mut log, n, n, format!("{n:04}").as_bytes(), &[Column::new(0, b"")]).unwrap();
+        records::put(&mut log, Format::One, n, n, format!("{n:04}").as_bytes(), &[Column::new(0, b"")]).unwrap();
     }
     records::mark(&mut log, 1001).unwrap();
     let store = mtrecover::recover(&[&log], &[]).unwrap();
@@ -159,7 +159,7 @@ fn pairs_longer_than_the_buffer_are_walked() {
     records::log_header(&mut log, Format::One, 0).unwrap();
     for n in 1..=20_u64 {
         let columns = [Column::new(0, &value), Column::new(1, &value[..2000 * n as usize])];
-        records::put(&mut log, n, n, &[n as u8], &columns).unwrap();
+        records::put(&mut log, Format::One, n, n, &[n as u8], &columns).unwrap();
     }
     records::mark(&mut log, 21).unwrap();
     let store = mtrecover::recover(&[&log], &[]).unwrap();
@@ -217,7 +217,7 @@ fn a_torn_log_is_resumed() {
     let log = example("store/worker-1.mtl");
     let mut resumed = Vec::new();
     let told = records::resume_log(&mut resumed, &log, 40).unwrap();
-    assert_eq!((told.dropped, told.changed), (1, true));
+    assert_eq!(told, Resumed { dropped: 1, format: Format::Two, changed: true, ended: false });
     assert_eq!(mtrecover::recover(&[&resumed], &[]).unwrap().report().cutoff, 40);
     assert_eq!(records::resume_log(&mut resumed, b"x", 40), Err(WriteError::NoLog));
 }
@@ -225,15 +225,38 @@ fn a_torn_log_is_resumed() {
 #[test]
 fn an_unlawful_record_is_not_written() {
     let mut log = Vec::new();
-    assert_eq!(records::put(&mut log, 1, 0, b"k", &[Column::new(0, b"v")]), Err(WriteError::NotLawful));
-    assert_eq!(records::put(&mut log, 1, 1, b"k", &[]), Err(WriteError::NotLawful));
-    assert_eq!(records::remove(&mut log, 1, 1, &[0; 5000]), Err(WriteError::NotLawful));
-    assert_eq!(records::erase(&mut log, 1, 1, b"k", &[3, 3]), Err(WriteError::NotLawful));
+    assert_eq!(records::put(&mut log, Format::One, 1, 0, b"k", &[Column::new(0, b"v")]), Err(WriteError::NotLawful));
+    assert_eq!(records::put(&mut log, Format::One, 1, 1, b"k", &[]), Err(WriteError::NotLawful));
+    assert_eq!(records::erase(&mut log, Format::Two, 1, 1, b"k", &[3, 3]), Err(WriteError::NotLawful));
     assert!(log.is_empty());
+}
+
+#[test]
+fn what_only_format_2_has_is_not_written_in_format_1() {
+    let mut out = Vec::new();
+    let column = [Column::new(16, b"v")];
+    assert_eq!(records::put(&mut out, Format::One, 1, 1, b"k", &column), Err(WriteError::NotLawful));
+    assert_eq!(records::remove(&mut out, Format::One, 1, 1, &[0; 1025]), Err(WriteError::NotLawful));
+    assert_eq!(records::erase(&mut out, Format::One, 1, 1, b"k", &[3]), Err(WriteError::NotLawful));
+    assert_eq!(records::entry(&mut out, Format::One, 1, b"k", &column), Err(WriteError::NotLawful));
+    assert!(out.is_empty());
+    assert_eq!(records::put(&mut out, Format::Two, 1, 1, b"k", &column), Ok(()));
+    assert_eq!(records::remove(&mut out, Format::Two, 1, 1, &[0; 1025]), Ok(()));
+    assert_eq!(records::erase(&mut out, Format::Two, 1, 1, b"k", &[3]), Ok(()));
+    assert_eq!(records::entry(&mut out, Format::Two, 1, b"k", &column), Ok(()));
+}
+
+#[test]
+fn an_ended_log_says_so() {
+    let (mut log, mut resumed) = (Vec::new(), Vec::new());
+    records::segment_header(&mut log, 0, 2, 1).unwrap();
+    records::mark(&mut log, u64::MAX).unwrap();
+    let told = records::resume_log(&mut resumed, &log, 40).unwrap();
+    assert_eq!(told, Resumed { dropped: 0, format: Format::Two, changed: true, ended: true });
 }
 
 #[test]
 fn the_library_tells_its_version() {
     let version = mtrecover::version();
-    assert_eq!((version.library, version.log_format, version.part_format), (1, 3, 2));
+    assert_eq!((version.library, version.log_format, version.part_format), (2, 3, 2));
 }

@@ -1,5 +1,6 @@
 mod Adds
 pub mod Dumps
+mod Ends
 mod Follows
 mod JobLemmas
 mod Lasts

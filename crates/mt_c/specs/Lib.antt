@@ -2,6 +2,7 @@ pub mod Added
 pub mod Buffers
 pub mod Filling
 pub mod Flat
+pub mod Formats
 pub mod Given
 pub mod Owning
 pub mod Holding

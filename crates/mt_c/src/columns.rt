@@ -1,10 +1,10 @@
 //! Columns as C gives them.
-ghost use Rattle.std.specs.Prelude.{◌≡◌, map, IfOk, IfSome, IfNone};
-ghost use Rattle.mt_words.specs.Limits.{widest};
+ghost use Rattle.std.specs.Prelude.{◌≡◌, ◌<◌, ◌↔◌, length, map, IsTrue, IfOk};
+ghost use Rattle.mt_words.specs.Limits.{limits_of, widest};
 ghost use Rattle.mt_words.specs.Words.{AreColumns};
 ghost use Rattle.mt_c.specs.Given.{column_of};
 
-use mt_words::{Columns, Memory};
+use mt_words::{Column, Columns, Format, LONGEST_VALUE, Memory};
 use std::alloc::Global;
 
 /// A column as C gives it: its number and its value, which is lent for the call.
@@ -17,17 +17,29 @@ pub struct Given<'a> {
     pub bytes: &'a [u8],
 }
 
-/// Creates columns with copies of these values. None: they are not lawful.
-pub fn columns_of(alloc: Global, given: &[Given<'_>]) -> Result<Option<Columns>, Memory>
-    ensures value { IfOk result (λ made. IfSome made (λ columns. columns ≡ map column_of given.now)) }
-    ensures accepted { IfOk result (λ made. IfNone made (AreColumns widest (map column_of given.now) → ⊥)) }
+/// Returns whether there is a column, and the format allows these.
+pub fn are_some(format: Format, given: &[Given<'_>]) -> bool
+    ensures { IsTrue result ↔ (AreColumns (limits_of format) (map column_of given.now) × (0 < length (map column_of given.now))) }
+{
+    let greatest = format.limits().column;
+    let mut least = 0;
+    for column in given {
+        if column.number < least || column.number > greatest || column.bytes.len() > LONGEST_VALUE {
+            return false;
+        }
+        least = column.number + 1;
+    }
+    !given.is_empty()
+}
+
+/// Creates columns with copies of these values. Err: out of memory.
+pub fn copy_columns(alloc: Global, given: &[Given<'_>]) -> Result<Columns, Memory>
+    requires { AreColumns widest (map column_of given.now) }
+    ensures { IfOk result (λ columns. columns ≡ map column_of given.now) }
 {
     let mut columns = Columns::new(alloc);
     for column in given {
-        let bytes = Vec::from_slice(alloc, column.bytes)?;
-        let Ok(()) = columns.push(column.number, bytes) else {
-            return Ok(None);
-        };
+        columns.append(Column::copy_of(alloc, column.number, column.bytes)?);
     }
-    Ok(Some(columns))
+    Ok(columns)
 }

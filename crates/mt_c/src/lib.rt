@@ -11,6 +11,7 @@
 
 mod bare;
 mod buffer;
+mod changes;
 mod columns;
 mod dumping;
 mod fault;
@@ -18,6 +19,7 @@ mod feeding;
 mod feeds;
 mod filling;
 mod flat;
+mod formats;
 mod headers;
 mod held;
 mod hosting;

@@ -1,26 +1,27 @@
 //! Parts of checkpoints: headers, entries and footers.
-ghost use Rattle.std.specs.Prelude.{◌≡◌, ◌≢◌, map};
-ghost use Rattle.mt_words.specs.declared.limits.Format.TheVariants.{One, Two};
-ghost use Rattle.mt_words.specs.Limits.{widest};
-ghost use Rattle.mt_words.specs.Changes.{IsEntry};
+ghost use Rattle.std.specs.Prelude.{◌≡◌, ◌≢◌, map, IfSome, IfNone};
 ghost use Rattle.mt_words.specs.Built.{entry_of};
 ghost use Rattle.mt_record.specs.Parts.{part_head, part_head_bytes, entry_spelling, footer_bytes};
-ghost use Rattle.mt_c.specs.declared.status.TheConstants.{DONE, WRONG};
+ghost use Rattle.mt_c.specs.declared.status.TheConstants.{DONE, WRONG, SHORT};
 ghost use Rattle.mt_c.specs.Given.{column_of};
-ghost use Rattle.mt_c.specs.Buffers.{Writes};
+ghost use Rattle.mt_c.specs.Buffers.{Writes, HasWritten};
+ghost use Rattle.mt_c.specs.Formats.{format_of, FitsPart};
 
 use crate::buffer::write_bytes;
-use crate::columns::{Given, columns_of};
+use crate::changes::{GivenChange, GivenKind};
+use crate::columns::Given;
+use crate::formats::format_of;
 use crate::status::{MEMORY, WRONG};
 use mt_record::{PartHead, encode_entry, encode_part_footer, encode_part_header};
-use mt_words::{Entry, Format, Key};
+use mt_words::Entry;
 use std::alloc::Global;
 
-/// Writes the header of a part of format 1 to the beginning of `out`, and its length to `count`. It is part `part` of
-/// the `parts` parts of checkpoint `number`, which begins at the timestamp `begin`.
+/// Writes the header of a part of this format to the beginning of `out`, and its length to `count`. It is part `part` of
+/// the `parts` parts of checkpoint `number`, which begins at the timestamp `begin`. `WRONG`: the format is neither 1 nor 2.
 #[unsafe(no_mangle)]
-pub extern "C" fn mtr_part_header_1(
+pub extern "C" fn mtr_part_header(
     alloc: Global,
+    format: u32,
     number: u32,
     begin: u64,
     part: u16,
@@ -28,48 +29,35 @@ pub extern "C" fn mtr_part_header_1(
     out: &mut [u8],
     count: &mut usize,
 ) -> u32
-    ensures written { Writes (part_head_bytes (part_head One number begin part parts)) out.old out.new count.new result }
-    ensures accepted { result ≢ WRONG }
+    ensures written { IfSome (format_of format) (λ kind. Writes (part_head_bytes (part_head kind number begin part parts)) out.old out.new count.new result) }
+    ensures kept { result ≢ DONE → out.new ≡ out.old }
+    ensures certain { IfSome (format_of format) (λ _. HasWritten result) }
+    ensures refused { IfNone (format_of format) (result ≡ WRONG) }
+    ensures untold { result ≢ DONE → result ≢ SHORT → count.new ≡ count.old }
 {
+    let Some(format) = format_of(format) else {
+        return WRONG;
+    };
     let head = PartHead {
-        format: Format::One,
+        format,
         number,
         begin,
         part,
         parts,
     };
-    write_part_header(alloc, head, out, count)
+    let mut bytes = Vec::new(alloc);
+    match encode_part_header(head, &mut bytes) {
+        Ok(()) => write_bytes(&bytes, out, count),
+        Err(_) => MEMORY,
+    }
 }
 
-/// Writes the header of a part of format 2, as `mtr_part_header_1` does that of format 1.
-#[unsafe(no_mangle)]
-pub extern "C" fn mtr_part_header_2(
-    alloc: Global,
-    number: u32,
-    begin: u64,
-    part: u16,
-    parts: u16,
-    out: &mut [u8],
-    count: &mut usize,
-) -> u32
-    ensures written { Writes (part_head_bytes (part_head Two number begin part parts)) out.old out.new count.new result }
-    ensures accepted { result ≢ WRONG }
-{
-    let head = PartHead {
-        format: Format::Two,
-        number,
-        begin,
-        part,
-        parts,
-    };
-    write_part_header(alloc, head, out, count)
-}
-
-/// Writes the entry of a key with these columns to the beginning of `out`, and its length to `count`. `WRONG`: it is not
-/// lawful.
+/// Writes the entry of a key with these columns to the beginning of `out`, and its length to `count`. `WRONG`: there is
+/// no part of this format, or it may not have the entry.
 #[unsafe(no_mangle)]
 pub extern "C" fn mtr_entry(
     alloc: Global,
+    format: u32,
     version: u64,
     key: &[u8],
     columns: &[Given<'_>],
@@ -77,23 +65,24 @@ pub extern "C" fn mtr_entry(
     count: &mut usize,
 ) -> u32
     ensures written { Writes (entry_spelling (entry_of version key.now (map column_of columns.now))) out.old out.new count.new result }
-    ensures refused { result ≡ WRONG → IsEntry widest (entry_of version key.now (map column_of columns.now)) → ⊥ }
-    ensures lawful { result ≡ DONE → IsEntry widest (entry_of version key.now (map column_of columns.now)) }
+    ensures certain { FitsPart format (entry_of version key.now (map column_of columns.now)) → HasWritten result }
+    ensures refused { (FitsPart format (entry_of version key.now (map column_of columns.now)) → ⊥) → result ≡ WRONG }
+    ensures untold { result ≢ DONE → result ≢ SHORT → count.new ≡ count.old }
 {
-    let Ok(key) = Vec::from_slice(alloc, key) else {
-        return MEMORY;
-    };
-    let Some(key) = Key::new(key) else {
+    let Some(format) = format_of(format) else {
         return WRONG;
     };
-    let columns = match columns_of(alloc, columns) {
-        Ok(Some(columns)) => columns,
-        Ok(None) => return WRONG,
-        Err(_) => return MEMORY,
+    let entry = GivenChange {
+        version,
+        key,
+        kind: GivenKind::Whole(columns),
     };
-    match Entry::new(version, key, columns) {
-        Some(entry) => write_entry(alloc, &entry, out, count),
-        None => WRONG,
+    if !entry.fits(format) {
+        return WRONG;
+    }
+    match entry.copy(alloc) {
+        Ok(change) => write_entry(alloc, &Entry::of_change(change), out, count),
+        Err(_) => MEMORY,
     }
 }
 
@@ -108,7 +97,7 @@ pub extern "C" fn mtr_part_footer(
     count: &mut usize,
 ) -> u32
     ensures written { Writes (footer_bytes end entries) out.old out.new count.new result }
-    ensures accepted { result ≢ WRONG }
+    ensures certain { HasWritten result }
 {
     let mut bytes = Vec::new(alloc);
     match encode_part_footer(end, entries, &mut bytes) {
@@ -117,26 +106,12 @@ pub extern "C" fn mtr_part_footer(
     }
 }
 
-/// Writes the header to the beginning of `out`, and its length to `count`.
-fn write_part_header(alloc: Global, head: PartHead, out: &mut [u8], count: &mut usize) -> u32
-    ensures written { Writes (part_head_bytes head) out.old out.new count.new result }
-    ensures accepted { result ≢ WRONG }
-{
-    let mut bytes = Vec::new(alloc);
-    match encode_part_header(head, &mut bytes) {
-        Ok(()) => write_bytes(&bytes, out, count),
-        Err(_) => MEMORY,
-    }
-}
-
 /// Writes the entry to the beginning of `out`, and its length to `count`.
 fn write_entry(alloc: Global, entry: &Entry, out: &mut [u8], count: &mut usize) -> u32
     ensures written { Writes (entry_spelling entry.now) out.old out.new count.new result }
-    ensures accepted { result ≢ WRONG }
-    ensures lawful { IsEntry widest entry.now }
+    ensures certain { HasWritten result }
+    ensures untold { result ≢ DONE → result ≢ SHORT → count.new ≡ count.old }
 {
-    // Its contract says that the entry is lawful.
-    let _ = entry.change();
     let mut bytes = Vec::new(alloc);
     match encode_entry(entry, &mut bytes) {
         Ok(()) => write_bytes(&bytes, out, count),

@@ -1,34 +1,37 @@
 //! Records of logs.
 ghost use Rattle.std.specs.Prelude.{◌≡◌, ◌≢◌, map};
-ghost use Rattle.mt_words.specs.Limits.{widest};
-ghost use Rattle.mt_words.specs.Changes.{IsLawful};
+ghost use Rattle.mt_words.specs.Changes.{changed, IsLogged};
 ghost use Rattle.mt_words.specs.Built.{mark_of, put_of, remove_of, erase_of};
 ghost use Rattle.mt_record.specs.Spelling.{spelling};
-ghost use Rattle.mt_c.specs.declared.status.TheConstants.{DONE, WRONG};
-ghost use Rattle.mt_c.specs.Given.{column_of};
-ghost use Rattle.mt_c.specs.Buffers.{Writes};
+ghost use Rattle.mt_c.specs.declared.status.TheConstants.{DONE, WRONG, SHORT};
+ghost use Rattle.mt_c.specs.Given.{column_of, kind_of, change_of};
+ghost use Rattle.mt_c.specs.Buffers.{Writes, HasWritten};
+ghost use Rattle.mt_c.specs.Formats.{FitsLog};
 
 use crate::buffer::write_bytes;
-use crate::columns::{Given, columns_of};
+use crate::changes::{GivenChange, GivenKind};
+use crate::columns::Given;
+use crate::formats::records_of;
 use crate::status::{MEMORY, WRONG};
 use mt_record::encode_record;
-use mt_words::{Key, Numbers, Record};
+use mt_words::Record;
 use std::alloc::Global;
 
 /// Writes a mark to the beginning of `out`, and its length to `count`.
 #[unsafe(no_mangle)]
 pub extern "C" fn mtr_mark(alloc: Global, time: u64, out: &mut [u8], count: &mut usize) -> u32
     ensures written { Writes (spelling (mark_of time)) out.old out.new count.new result }
-    ensures accepted { result ≢ WRONG }
+    ensures certain { HasWritten result }
 {
     write_record(alloc, &Record::mark(time), out, count)
 }
 
-/// Writes a put of these columns of the key to the beginning of `out`, and its length to `count`. `WRONG`: it is not
-/// lawful.
+/// Writes a put of these columns of the key to the beginning of `out`, and its length to `count`. `WRONG`: there is no
+/// log of this format, or it may not have the put.
 #[unsafe(no_mangle)]
 pub extern "C" fn mtr_put(
     alloc: Global,
+    format: u32,
     time: u64,
     version: u64,
     key: &[u8],
@@ -37,30 +40,24 @@ pub extern "C" fn mtr_put(
     count: &mut usize,
 ) -> u32
     ensures written { Writes (spelling (put_of time version key.now (map column_of columns.now))) out.old out.new count.new result }
-    ensures refused { result ≡ WRONG → IsLawful widest (put_of time version key.now (map column_of columns.now)) → ⊥ }
-    ensures lawful { result ≡ DONE → IsLawful widest (put_of time version key.now (map column_of columns.now)) }
+    ensures certain { FitsLog format (put_of time version key.now (map column_of columns.now)) → HasWritten result }
+    ensures refused { (FitsLog format (put_of time version key.now (map column_of columns.now)) → ⊥) → result ≡ WRONG }
+    ensures untold { result ≢ DONE → result ≢ SHORT → count.new ≡ count.old }
 {
-    let Ok(key) = Vec::from_slice(alloc, key) else {
-        return MEMORY;
+    let put = GivenChange {
+        version,
+        key,
+        kind: GivenKind::Put(columns),
     };
-    let Some(key) = Key::new(key) else {
-        return WRONG;
-    };
-    let columns = match columns_of(alloc, columns) {
-        Ok(Some(columns)) => columns,
-        Ok(None) => return WRONG,
-        Err(_) => return MEMORY,
-    };
-    match Record::put(time, version, key, columns) {
-        Some(put) => write_record(alloc, &put, out, count),
-        None => WRONG,
-    }
+    write_change(alloc, format, time, put, out, count)
 }
 
-/// Writes a remove of the key to the beginning of `out`, and its length to `count`. `WRONG`: it is not lawful.
+/// Writes a remove of the key to the beginning of `out`, and its length to `count`. `WRONG`: there is no log of this
+/// format, or it may not have the remove.
 #[unsafe(no_mangle)]
 pub extern "C" fn mtr_remove(
     alloc: Global,
+    format: u32,
     time: u64,
     version: u64,
     key: &[u8],
@@ -68,26 +65,24 @@ pub extern "C" fn mtr_remove(
     count: &mut usize,
 ) -> u32
     ensures written { Writes (spelling (remove_of time version key.now)) out.old out.new count.new result }
-    ensures refused { result ≡ WRONG → IsLawful widest (remove_of time version key.now) → ⊥ }
-    ensures lawful { result ≡ DONE → IsLawful widest (remove_of time version key.now) }
+    ensures certain { FitsLog format (remove_of time version key.now) → HasWritten result }
+    ensures refused { (FitsLog format (remove_of time version key.now) → ⊥) → result ≡ WRONG }
+    ensures untold { result ≢ DONE → result ≢ SHORT → count.new ≡ count.old }
 {
-    let Ok(key) = Vec::from_slice(alloc, key) else {
-        return MEMORY;
+    let remove = GivenChange {
+        version,
+        key,
+        kind: GivenKind::Remove,
     };
-    let Some(key) = Key::new(key) else {
-        return WRONG;
-    };
-    match Record::remove(time, version, key) {
-        Some(remove) => write_record(alloc, &remove, out, count),
-        None => WRONG,
-    }
+    write_change(alloc, format, time, remove, out, count)
 }
 
 /// Writes an erase of the columns of the key that have these numbers to the beginning of `out`, and its length to
-/// `count`. `WRONG`: it is not lawful.
+/// `count`. `WRONG`: there is no log of this format, or it may not have the erase.
 #[unsafe(no_mangle)]
 pub extern "C" fn mtr_erase(
     alloc: Global,
+    format: u32,
     time: u64,
     version: u64,
     key: &[u8],
@@ -96,32 +91,52 @@ pub extern "C" fn mtr_erase(
     count: &mut usize,
 ) -> u32
     ensures written { Writes (spelling (erase_of time version key.now numbers.now)) out.old out.new count.new result }
-    ensures refused { result ≡ WRONG → IsLawful widest (erase_of time version key.now numbers.now) → ⊥ }
-    ensures lawful { result ≡ DONE → IsLawful widest (erase_of time version key.now numbers.now) }
+    ensures certain { FitsLog format (erase_of time version key.now numbers.now) → HasWritten result }
+    ensures refused { (FitsLog format (erase_of time version key.now numbers.now) → ⊥) → result ≡ WRONG }
+    ensures untold { result ≢ DONE → result ≢ SHORT → count.new ≡ count.old }
 {
-    let Ok(key) = Vec::from_slice(alloc, key) else {
-        return MEMORY;
+    let erase = GivenChange {
+        version,
+        key,
+        kind: GivenKind::Erase(numbers),
     };
-    let Some(key) = Key::new(key) else {
+    write_change(alloc, format, time, erase, out, count)
+}
+
+/// Writes the record of this change to the beginning of `out`, and its length to `count`. `WRONG`: there is no log of
+/// this format, or it may not have the record.
+fn write_change(
+    alloc: Global,
+    format: u32,
+    time: u64,
+    given: GivenChange<'_>,
+    out: &mut [u8],
+    count: &mut usize,
+) -> u32
+    requires { IsLogged (kind_of given.kind) }
+    ensures written { Writes (spelling (changed time (change_of given.entry))) out.old out.new count.new result }
+    ensures certain { FitsLog format (changed time (change_of given.entry)) → HasWritten result }
+    ensures refused { (FitsLog format (changed time (change_of given.entry)) → ⊥) → result ≡ WRONG }
+    ensures untold { result ≢ DONE → result ≢ SHORT → count.new ≡ count.old }
+{
+    let Some(format) = records_of(format) else {
         return WRONG;
     };
-    let Some(numbers) = Numbers::new(numbers) else {
+    if !given.fits(format) {
         return WRONG;
-    };
-    match Record::erase(time, version, key, numbers) {
-        Some(erase) => write_record(alloc, &erase, out, count),
-        None => WRONG,
+    }
+    match given.copy(alloc) {
+        Ok(change) => write_record(alloc, &Record::of_change(time, change), out, count),
+        Err(_) => MEMORY,
     }
 }
 
 /// Writes the record to the beginning of `out`, and its length to `count`.
 fn write_record(alloc: Global, record: &Record, out: &mut [u8], count: &mut usize) -> u32
     ensures written { Writes (spelling «record».now) out.old out.new count.new result }
-    ensures accepted { result ≢ WRONG }
-    ensures lawful { IsLawful widest «record».now }
+    ensures certain { HasWritten result }
+    ensures untold { result ≢ DONE → result ≢ SHORT → count.new ≡ count.old }
 {
-    // Its contract says that the record is lawful.
-    let _ = record.timestamp();
     let mut bytes = Vec::new(alloc);
     match encode_record(record, &mut bytes) {
         Ok(()) => write_bytes(&bytes, out, count),
