@@ -10,9 +10,10 @@ use crate::progress::{Meter, count_all};
 use crate::request::CheckForm;
 use mt_record::Rest;
 use mt_recover::{
-    LogCheck, MOST_BYTES, Refusal, Window, check_logs, check_parts, hole_before, start_of,
+    LogCheck, MOST_BYTES, Refusal, Window, check_logs, check_parts, fronts_of, hole_before,
+    start_of,
 };
-use mt_scan::{LogScan, Slot};
+use mt_scan::Slot;
 use mt_words::{Fault, Memory};
 use std::alloc::Global;
 use std::io::{BufWriter, Write};
@@ -68,7 +69,9 @@ impl<'a, R: Host> Run<'a, R> {
             let file = self.checked_file(name.as_str(), matches!(state, PartState::Unread));
             parts.push(CheckedPart { file, state })?;
         }
-        let mut start = start_of(alloc, Vec::from_slice(alloc, &checks)?, scans);
+        let mut start = fronts_of(alloc, Vec::from_slice(alloc, &checks)?).and_then(
+            |fronts| start_of(alloc, &fronts, scans),
+        );
         let mut holes = Vec::new(alloc);
         if let Ok(found) = &start {
             let window = found.window;
@@ -165,20 +168,13 @@ fn holes_of(
     checks: &[Result<LogCheck, Fault>],
     window: Window,
 ) -> Result<Result<Vec<Option<u64>>, Fault>, Memory> {
-    let mut scans: Vec<LogScan> = Vec::with_capacity(alloc, checks.len())?;
-    for (log, check) in checks.iter().enumerate() {
-        let scan = match check {
-            Ok(check) => check.scan(alloc, log),
-            Err(fault) => Err(*fault),
-        };
-        match scan {
-            Ok(scan) => scans.push(scan)?,
-            Err(fault) => return Ok(Err(fault)),
-        }
-    }
-    let mut holes = Vec::with_capacity(alloc, scans.len())?;
-    for scan in &scans {
-        holes.push(hole_before(&scans, window, scan))?;
+    let fronts = match fronts_of(alloc, Vec::from_slice(alloc, checks)?) {
+        Ok(fronts) => fronts,
+        Err(fault) => return Ok(Err(fault)),
+    };
+    let mut holes = Vec::with_capacity(alloc, fronts.len())?;
+    for front in &fronts {
+        holes.push(hole_before(&fronts, window, front))?;
     }
     Ok(Ok(holes))
 }

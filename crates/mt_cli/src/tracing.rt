@@ -5,12 +5,12 @@ use crate::host::{Host, Run};
 use crate::progress::count_inputs;
 use crate::request::Trace;
 use crate::row::{Cell, Field, write_row};
-use mt_record::Lent;
-use mt_recover::{Fate, Inputs, LogCheck, Refusal, check_parts, history_of, start_of};
+use mt_record::{Lent, LogFront};
+use mt_recover::{Fate, Inputs, Refusal, check_parts, history_of, start_of};
 use mt_scan::{LogScan, Source, scan_log};
 use mt_text::Value;
 use mt_words::{Fault, Memory, Origin};
-use std::alloc::{AllocError, Global};
+use std::alloc::Global;
 use std::io::{BufWriter, Write};
 
 impl<'a, R: Host> Run<'a, R> {
@@ -33,7 +33,8 @@ impl<'a, R: Host> Run<'a, R> {
         let parts = check_parts(self.rt, alloc, parts, self.folder.workers);
         meter.end();
         let (scans, parts) = (scans?, parts?);
-        let start = start_of(alloc, checks_of(alloc, &scans)?, parts)?;
+        let fronts: Vec<LogFront> = scans.iter().map(|scan| scan.front).collect(alloc)?;
+        let start = start_of(alloc, &fronts, parts)?;
         let chosen = &start.choice.chosen;
         let checkpoint = match chosen {
             Some(checkpoint) => Some(u64::from(checkpoint.number)),
@@ -62,19 +63,6 @@ fn scan_logs<S: Source>(alloc: Global, logs: Vec<S>) -> Result<Vec<LogScan>, Fau
         }
     }
     Ok(scans)
-}
-
-/// Returns the checks of these scans, in which nothing counts as late. Err: out of memory.
-fn checks_of(alloc: Global, scans: &[LogScan]) -> Result<Vec<Result<LogCheck, Fault>>, AllocError> {
-    let mut checks = Vec::with_capacity(alloc, scans.len())?;
-    for scan in scans {
-        checks.push(Ok(LogCheck {
-            front: scan.front,
-            marks: scan.marks,
-            late: 0,
-        }))?;
-    }
-    Ok(checks)
 }
 
 /// Returns the line of an update: where it comes from, what it says and what became of it. The timestamp of an entry is not

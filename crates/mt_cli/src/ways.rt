@@ -5,7 +5,7 @@ use crate::host::{Host, Run};
 use crate::progress::{Meter, Telling};
 use crate::request::Cut;
 use crate::row::{Cell, write_row};
-use mt_recover::{Failure, Refusal, Window, check_parts, start_of};
+use mt_recover::{Failure, Refusal, Window, check_parts, fronts_of, start_of};
 use mt_scan::{Checkpoint, Slot};
 use mt_text::Value;
 use mt_words::Fault;
@@ -58,7 +58,8 @@ impl<'a, R: Host> Run<'a, R> {
         let (checks, _) = self.check_logs(&cuts, rack.slots(), u64::MAX, &meter)?;
         let (sources, _) = self.open_each(&self.names.parts, &[], rack.slots())?;
         let parts = check_parts(self.rt, self.rt.alloc(), sources, self.folder.workers)?;
-        let start = start_of(self.rt.alloc(), checks, parts)?;
+        let fronts = fronts_of(self.rt.alloc(), checks)?;
+        let start = start_of(self.rt.alloc(), &fronts, parts)?;
         let Window { begin, cutoff } = start.window;
         let kept = self.count_from(&cuts, rack.slots(), begin, &meter)?;
         let late = self.count_from(&cuts, rack.slots(), cutoff, &meter)?;

@@ -77,7 +77,7 @@ outcomes_fed (l ∷ ls) parts outcomes some fed =
 
 -- recovery of no log is refused
 pub no_logs_fed : (logs parts : List Input) (answers : Answers) → answers.logs ≡ [] → AreFed logs parts answers → IsRecoveryFrom seen_fed logs parts (Err faults.NoLogs)
-no_logs_fed [] parts answers none fed = record { value = tt; fault = answered_seen seen_fed [] parts faults.NoLogs (none_refused 0 [] (map seen_fed parts) [] tt refl) }
+no_logs_fed [] parts answers none fed = record { value = tt; fault = answered_seen seen_fed [] parts faults.NoLogs (none_refused [] (map seen_fed parts) [] tt refl) }
 no_logs_fed (l ∷ ls) parts answers none fed = absurd (subst (AllFrom IsLogAnswer 0 (l ∷ ls)) none fed.logs_are)
 
 whole_logs : (number : ℕ) (logs : List Input) (scans : List LogScan) → AllFrom IsLogAnswer number logs (map Ok scans) → All IsSome logs

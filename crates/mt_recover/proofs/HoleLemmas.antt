@@ -1,4 +1,4 @@
--- A hole before a scanned file is one before the file that it shows.
+-- A hole that a front shows is one before its file.
 use Rattle.std.proofs.Common.{◌≡◌, ℕ, suc, ◌<◌, ◌≤◌, min, Bool, true, false, Option, Some, None, List, [], ◌∷◌, length, refl, ap, arith}
 use Rattle.std.specs.Prelude.{◌&&◌, filter, find, is_some, nat_lt, if◌then◌else◌}
 use Rattle.std.specs.Option.{option_map}
@@ -6,12 +6,13 @@ use Rattle.std.proofs.lemmas.List.Elements.{All-contains}
 use Rattle.std.proofs.lemmas.Bool.{lt-ltb, le-ltb}
 use Rattle.mt_record.specs.Logs.{LogReading, IsGreatestOf}
 use Rattle.mt_record.specs.LogTexts.{greatest}
-use Rattle.mt_scan.specs.declared.log_scan.LogScan.{LogScan}
-use Rattle.mt_scan.specs.Scans.{last_in, HasNumbersOf, HaveNumbersOf}
+use Rattle.mt_record.specs.declared.front.LogFront.{LogFront}
+use Rattle.mt_scan.specs.Scans.{last_in, ShowsFront, ShowFronts}
+use Rattle.mt_scan.specs.Segments.{is_just_before}
 use Rattle.mt_scan.proofs.Numbers.{from_shown, segment_shown}
 use Rattle.mt_replay.specs.declared.window.Window.{Window}
-use Rattle.mt_recover.specs.Holes.{last_of, is_just_before, ends_short, hole_before, has_hole}
-use Rattle.mt_recover.specs.Steps.Holes.{short_end, scan_hole, ends_short as ends_short_in}
+use Rattle.mt_recover.specs.Holes.{last_of, ends_short, hole_before, has_hole}
+use Rattle.mt_recover.specs.Steps.Holes.{short_end, front_hole, ends_short as ends_short_in}
 use Rattle.mt_recover.proofs.VersionLemmas.{none_above, greatest_among}
 
 -- the greatest of times is one number
@@ -21,39 +22,39 @@ one_last time times n is =
     let low : greatest (time ∷ times) ≤ n = All-contains (λ (t : ℕ). t ≤ n) (time ∷ times) (greatest (time ∷ times)) is.1 (greatest_among time times) in
     omega (arith, high, low)
 
-last_shown : (scan : LogScan) (log : LogReading) → HasNumbersOf scan log → last_in scan.front ≡ last_of log
-last_shown scan log shows = one_last log.head.from _ (last_in scan.front) shows.last
+last_shown : (front : LogFront) (log : LogReading) → ShowsFront front log → last_in front ≡ last_of log
+last_shown front log shows = one_last log.head.from _ (last_in front) shows.last
 
-short_shown : (cutoff : ℕ) (scan other : LogScan) (log file : LogReading) → HasNumbersOf scan log → HasNumbersOf other file → ends_short_in cutoff scan.front other.front ≡ ends_short cutoff log file
-short_shown cutoff scan other log file shows show i =
-    is_just_before (segment_shown other file show i) (segment_shown scan log shows i) && nat_lt (last_shown other file show i) (min (from_shown scan log shows i) cutoff)
+short_shown : (cutoff : ℕ) (front other : LogFront) (log file : LogReading) → ShowsFront front log → ShowsFront other file → ends_short_in cutoff front other ≡ ends_short cutoff log file
+short_shown cutoff front other log file shows show i =
+    is_just_before (segment_shown other file show i) (segment_shown front log shows i) && nat_lt (last_shown other file show i) (min (from_shown front log shows i) cutoff)
 
-found_shown : (cutoff : ℕ) (scan : LogScan) (log : LogReading) → HasNumbersOf scan log → (scans : List LogScan) (logs : List LogReading) → HaveNumbersOf scans logs
-    → short_end cutoff scan.front scans ≡ option_map last_of (find (ends_short cutoff log) logs)
-found_shown cutoff scan log shows [] [] show = refl
-found_shown cutoff scan log shows [] (l ∷ ls) show = absurd show
-found_shown cutoff scan log shows (s ∷ ss) [] show = absurd show
-found_shown cutoff scan log shows (s ∷ ss) (l ∷ ls) show = by (ends_short cutoff log l) refl (found_shown cutoff scan log shows ss ls show.1)
+found_shown : (cutoff : ℕ) (front : LogFront) (log : LogReading) → ShowsFront front log → (fronts : List LogFront) (logs : List LogReading) → ShowFronts fronts logs
+    → short_end cutoff front fronts ≡ option_map last_of (find (ends_short cutoff log) logs)
+found_shown cutoff front log shows [] [] show = refl
+found_shown cutoff front log shows [] (l ∷ ls) show = absurd show
+found_shown cutoff front log shows (s ∷ ss) [] show = absurd show
+found_shown cutoff front log shows (s ∷ ss) (l ∷ ls) show = by (ends_short cutoff log l) refl (found_shown cutoff front log shows ss ls show.1)
   where
-    by : (b : Bool) → ends_short cutoff log l ≡ b → short_end cutoff scan.front ss ≡ option_map last_of (find (ends_short cutoff log) ls)
-        → short_end cutoff scan.front (s ∷ ss) ≡ option_map last_of (find (ends_short cutoff log) (l ∷ ls))
-    by true e rest = rw (short_shown cutoff scan s log l shows show.0, e) (ap Some (last_shown s l show.0))
-    by false e rest = rw (short_shown cutoff scan s log l shows show.0, e) rest
+    by : (b : Bool) → ends_short cutoff log l ≡ b → short_end cutoff front ss ≡ option_map last_of (find (ends_short cutoff log) ls)
+        → short_end cutoff front (s ∷ ss) ≡ option_map last_of (find (ends_short cutoff log) (l ∷ ls))
+    by true e rest = rw (short_shown cutoff front s log l shows show.0, e) (ap Some (last_shown s l show.0))
+    by false e rest = rw (short_shown cutoff front s log l shows show.0, e) rest
 
-pub hole_shown : (window : Window) (scan : LogScan) (log : LogReading) → HasNumbersOf scan log → (scans : List LogScan) (logs : List LogReading) → HaveNumbersOf scans logs
-    → scan_hole window scans scan ≡ hole_before window logs log
-hole_shown window scan log shows scans logs show i = if nat_lt window.begin (from_shown scan log shows i) then found_shown window.cutoff scan log shows scans logs show i else None
+pub hole_shown : (window : Window) (front : LogFront) (log : LogReading) → ShowsFront front log → (fronts : List LogFront) (logs : List LogReading) → ShowFronts fronts logs
+    → front_hole window fronts front ≡ hole_before window logs log
+hole_shown window front log shows fronts logs show i = if nat_lt window.begin (from_shown front log shows i) then found_shown window.cutoff front log shows fronts logs show i else None
 
--- as many scanned files have a hole before them as files
-pub holes_counted : (window : Window) (all : List LogScan) (files : List LogReading) → HaveNumbersOf all files → (scans : List LogScan) (logs : List LogReading) → HaveNumbersOf scans logs
-    → length (filter (λ (scan : LogScan). is_some (scan_hole window all scan)) scans) ≡ length (filter (has_hole window files) logs)
+-- as many fronts show a hole as files have one before them
+pub holes_counted : (window : Window) (all : List LogFront) (files : List LogReading) → ShowFronts all files → (fronts : List LogFront) (logs : List LogReading) → ShowFronts fronts logs
+    → length (filter (λ (front : LogFront). is_some (front_hole window all front)) fronts) ≡ length (filter (has_hole window files) logs)
 holes_counted window all files shown [] [] show = refl
 holes_counted window all files shown [] (l ∷ ls) show = absurd show
 holes_counted window all files shown (s ∷ ss) [] show = absurd show
 holes_counted window all files shown (s ∷ ss) (l ∷ ls) show = by (has_hole window files l) refl (holes_counted window all files shown ss ls show.1)
   where
-    tells : LogScan → Bool
-    tells scan = is_some (scan_hole window all scan)
+    tells : LogFront → Bool
+    tells front = is_some (front_hole window all front)
 
     same : tells s ≡ has_hole window files l
     same = ap is_some (hole_shown window s l show.0 all files shown)

@@ -21,7 +21,7 @@ use Rattle.mt_record.specs.declared.front.LogFront.{LogFront}
 use Rattle.mt_record.specs.declared.front.Rest.{Rest}
 use Rattle.mt_record.specs.declared.front.Rest.TheVariants.{Nothing, Torn, Faulty}
 use Rattle.mt_record.specs.LogTexts.{greatest, tail_rest}
-use Rattle.mt_scan.specs.Scans.{last_in, HasNumbersOf, HaveNumbersOf}
+use Rattle.mt_scan.specs.Scans.{last_in, HasNumbersOf, HaveNumbersOf, ShowFronts}
 use Rattle.mt_scan.specs.Cutoff.{IsCutoff}
 use Rattle.mt_scan.specs.PartsShown.{KeptPart, shown_by_all}
 use Rattle.mt_scan.specs.Choice.{CheckpointReading}
@@ -75,7 +75,7 @@ same_sums of_scan of_log same (s ∷ ss) (l ∷ ls) numbers =
 
 pub records_counted : (scans : List LogScan) (readings : List LogReading) → HaveNumbersOf scans readings → sum_by (λ (scan : LogScan). scan.front.count) scans ≡ length (all_records readings)
 records_counted scans readings numbers =
-    same_sums (λ (scan : LogScan). scan.front.count) (λ (log : LogReading). length log.records) (λ s l is. is.count) scans readings numbers
+    same_sums (λ (scan : LogScan). scan.front.count) (λ (log : LogReading). length log.records) (λ s l is. is.front.count) scans readings numbers
     ∙ sym (length-flat_map (λ (log : LogReading). log.records) readings)
 
 pub marks_counted : (scans : List LogScan) (readings : List LogReading) → HaveNumbersOf scans readings
@@ -103,14 +103,14 @@ pub torn_counted : (scans : List LogScan) (readings : List LogReading) → HaveN
     → count_by (λ (scan : LogScan). is_torn scan.front.rest) scans ≡ length (filter (λ (log : LogReading). log.torn) readings)
 torn_counted scans readings numbers =
     same_sums (λ (scan : LogScan). one_if (is_torn scan.front.rest)) (λ (log : LogReading). one_if log.torn)
-    (λ s l is. ap one_if (ap (λ (front : LogFront). is_torn front.rest) is.front ∙ torn_of l.torn)) scans readings numbers
+    (λ s l is. ap one_if (ap (λ (front : LogFront). is_torn front.rest) is.front.is ∙ torn_of l.torn)) scans readings numbers
     ∙ sym (length-filter (λ (log : LogReading). log.torn) readings)
 
 pub ends_are : (scans : List LogScan) (readings : List LogReading) → HaveNumbersOf scans readings → map (λ (scan : LogScan). scan.front.bytes) scans ≡ map end_of readings
 ends_are [] [] numbers = refl
 ends_are [] (l ∷ ls) numbers = absurd numbers
 ends_are (s ∷ ss) [] numbers = absurd numbers
-ends_are (s ∷ ss) (l ∷ ls) numbers = λ i. (numbers.0.front i).bytes ∷ ends_are ss ls numbers.1 i
+ends_are (s ∷ ss) (l ∷ ls) numbers = λ i. (numbers.0.front.is i).bytes ∷ ends_are ss ls numbers.1 i
 
 -- a last timestamp of a scan is a time of the logs
 has_last : (scans : List LogScan) (readings : List LogReading) (n : ℕ) → HaveNumbersOf scans readings → Contains (map (λ (scan : LogScan). last_in scan.front) scans) n → Contains (flat_map times_of readings) n
@@ -119,7 +119,7 @@ has_last [] (l ∷ ls) n numbers at = absurd numbers
 has_last (s ∷ ss) [] n numbers at = absurd numbers
 has_last (s ∷ ss) (l ∷ ls) n numbers at =
     elim (head_or_tail (last_in s.front) n (map (λ (scan : LogScan). last_in scan.front) ss) at) as (λ _. Contains (times_of l ++ flat_map times_of ls) n) [
-      | inl e ↦ Contains-append_left (times_of l) (flat_map times_of ls) n (subst (Contains (times_of l)) e numbers.0.last.0)
+      | inl e ↦ Contains-append_left (times_of l) (flat_map times_of ls) n (subst (Contains (times_of l)) e numbers.0.front.last.0)
       | inr later ↦ Contains-append_right (times_of l) (flat_map times_of ls) n (has_last ss ls n numbers.1 later)
     ]
 
@@ -132,7 +132,7 @@ bound_lasts (s ∷ ss) (l ∷ ls) n numbers least =
     let lasts = map (λ (scan : LogScan). last_in scan.front) ss in
     let own : last_in s.front ≤ n = least (last_in s.front) (head_in (last_in s.front) lasts) in
     All-append (λ (time : ℕ). time ≤ n) (times_of l) (flat_map times_of ls)
-    (λ i d within. omega (arith, own, numbers.0.last.1 i d within))
+    (λ i d within. omega (arith, own, numbers.0.front.last.1 i d within))
     (bound_lasts ss ls n numbers.1 (λ t at. least t (tail_in (last_in s.front) t lasts at)))
 
 -- the greatest of the last timestamps is the greatest time of the logs
@@ -159,6 +159,13 @@ numbers_of limit number [] [] show = tt
 numbers_of limit number [] (l ∷ ls) show = absurd show
 numbers_of limit number (s ∷ ss) [] show = absurd show
 numbers_of limit number (s ∷ ss) (l ∷ ls) show = (show.0.numbers, numbers_of limit (suc number) ss ls show.1)
+
+-- scans with the numbers of logs have fronts that show the logs
+pub fronts_show : (scans : List LogScan) (readings : List LogReading) → HaveNumbersOf scans readings → ShowFronts (map (λ (scan : LogScan). scan.front) scans) readings
+fronts_show [] [] numbers = tt
+fronts_show [] (l ∷ ls) numbers = absurd numbers
+fronts_show (s ∷ ss) [] numbers = absurd numbers
+fronts_show (s ∷ ss) (l ∷ ls) numbers = (numbers.0.front, fronts_show ss ls numbers.1)
 
 -- a filter that keeps nothing at or after the limit keeps the same updates of the scans as of their logs
 pub same_updates : (keeps : Update → Bool) (limit number : ℕ) (scans : List LogScan) (readings : List LogReading) → ((update : Update) → limit ≤ update.timestamp → keeps update ≡ false) → ShowAll limit number scans readings

@@ -9,11 +9,14 @@ use Rattle.std.proofs.lemmas.Slice.Zip.{AllZip-long}
 use Rattle.mt_words.specs.declared.fault.Fault.{Fault}
 use Rattle.mt_words.specs.declared.fault.Fault.TheVariants as faults
 use Rattle.mt_words.specs.declared.fault.Memory.{Memory}
+use Rattle.std.specs.List.{AllZip}
+use Rattle.mt_record.specs.declared.front.LogFront.{LogFront}
 use Rattle.mt_record.specs.Logs.{LogReading}
 use Rattle.mt_scan.specs.declared.log_scan.LogScan.{LogScan}
 use Rattle.mt_scan.specs.declared.part_scan.PartScan.{PartScan}
 use Rattle.mt_scan.specs.Sources.{Seen, Agrees}
-use Rattle.mt_scan.specs.Scans.{IsScanFault, HaveNumbersOf, failures_of}
+use Rattle.mt_scan.specs.Cutoff.{IsCutoff}
+use Rattle.mt_scan.specs.Scans.{IsScanFault, OfTold, ShowFronts, failures_of}
 use Rattle.mt_scan.specs.PartsShown.{known_by, IsPartScanFault}
 use Rattle.mt_scan.proofs.Telling.{some_bytes}
 use Rattle.mt_scan.specs.Segments.{AreWriters}
@@ -23,8 +26,8 @@ use Rattle.mt_recover.specs.Steps.Preparing.{IsWritersFault}
 use Rattle.mt_recover.specs.Steps.LogScans.{ShowAll}
 use Rattle.mt_recover.specs.Inputs.{MayHave, OfSources, BlamesUnsteady, IsAnsweredBy, IsAnswerFrom}
 use Rattle.mt_recover.specs.Steps.Scanning.{IsFirstErr}
-use Rattle.mt_recover.specs.Steps.Outcomes.{IsLogOutcome, IsPartOutcome, AllFrom, read_parts, in_memory}
-use Rattle.mt_recover.proofs.ReportLemmas.{numbers_of}
+use Rattle.mt_recover.specs.Steps.Outcomes.{IsLogOutcome, IsFrontOutcome, IsFrontSeen, IsPartOutcome, AllFrom, in_memory}
+use Rattle.mt_recover.specs.Check.{ArePartOutcomes}
 
 -- ---- what sources may have
 
@@ -68,9 +71,26 @@ whole_logs limit number (s ∷ ss) (x ∷ xs) all =
       show = (own.2.shows, rest.show);
     }
 
+-- logs that the sources may have, and what the fronts show of them
+pub record AreRead (sources : List Seen) (fronts : List LogFront) : Type 0 where
+  pub logs : List (List ℕ)
+  pub readings : List LogReading
+  pub may : MayHave (λ seen. seen) sources logs
+  pub read : AreReadings logs readings
+  pub show : ShowFronts fronts readings
+
+pub read_logs : (sources : List Seen) (fronts : List LogFront) → AllZip IsFrontSeen sources fronts → AreRead sources fronts
+read_logs [] [] all = record { logs = []; readings = []; may = tt; read = tt; show = tt }
+read_logs [] (f ∷ fs) all = absurd all
+read_logs (s ∷ ss) [] all = absurd all
+read_logs (s ∷ ss) (f ∷ fs) all =
+    let own = all.0 in
+    let rest = read_logs ss fs all.1 in
+    record { logs = own.0 ∷ rest.logs; readings = own.2.log ∷ rest.readings; may = (own.1, rest.may); read = (own.2.is_reading, rest.read); show = (own.2.shows, rest.show) }
+
 -- there are as many logs as sources
-as_many_logs : (limit number : ℕ) (sources : List Seen) (scans : List LogScan) (are : AreWhole limit number sources scans) → length are.logs ≡ length sources
-as_many_logs limit number sources scans are = AllZip-long (λ seen bytes. Agrees seen.told bytes) sources are.logs are.may
+as_many_logs : (sources : List Seen) (fronts : List LogFront) (are : AreRead sources fronts) → length are.logs ≡ length sources
+as_many_logs sources fronts are = AllZip-long (λ seen bytes. Agrees seen.told bytes) sources are.logs are.may
 
 pub known_parts : (number : ℕ) (sources : List Seen) (scans : List PartScan) → AllFrom IsPartOutcome number sources (map Ok scans) → (parts : List (List ℕ)) × MayHave (λ seen. seen) sources parts × AreKnown parts (map known_by scans)
 known_parts number [] [] all = ([], tt, tt)
@@ -139,16 +159,47 @@ blames_log front back parts source bytes (faults.Source log) is steady = rw (is,
 blames_log front back parts source bytes (faults.PartSource part) is steady = absurd is
 blames_log front back parts source bytes fault is steady = tt
 
+-- what an answer of a log says: its front, or a fault
+pub record Says {A : Type 0} (front : A → LogFront) (R : ℕ → Seen → Result A Fault → Type 0) : Type 0 where
+  pub value : (log : ℕ) (seen : Seen) (x : A) → R log seen (Ok x) → IsFrontSeen seen (front x)
+  pub fault : (log : ℕ) (seen : Seen) (fault : Fault) → R log seen (Err fault) → OfTold seen.told (λ bytes. IsScanFault log bytes fault)
+  pub steady : (log : ℕ) (seen : Seen) (fault : Fault) → R log seen (Err fault) → IsTrue seen.steady → failures_of {X = LogScan} (Err fault) ≡ 0
+
+pub scan_says : (limit : ℕ) → Says (λ (scan : LogScan). scan.front) (IsLogOutcome limit)
+scan_says limit = record {
+  value = λ log seen x is. (is.scan.0, is.scan.1, record { log = is.scan.2.log; is_reading = is.scan.2.is_reading; shows = is.scan.2.shows.numbers.front });
+  fault = λ log seen fault is. is.fault;
+  steady = λ log seen fault is. is.steady;
+}
+
+pub front_says : Says (λ (front : LogFront). front) IsFrontOutcome
+front_says = record { value = λ log seen x is. is.front; fault = λ log seen fault is. is.fault; steady = λ log seen fault is. is.steady }
+
+-- if all answers are Ok, these are the fronts of the sources
+pub all_seen : {A : Type 0} {front : A → LogFront} {R : ℕ → Seen → Result A Fault → Type 0} → Says front R → (number : ℕ) (sources : List Seen) (xs : List A) → AllFrom R number sources (map Ok xs) → AllZip IsFrontSeen sources (map front xs)
+all_seen says number [] [] all = tt
+all_seen says number [] (x ∷ xs) all = absurd all
+all_seen says number (s ∷ ss) [] all = absurd all
+all_seen says number (s ∷ ss) (x ∷ xs) all = (says.value number s x all.0, all_seen says (suc number) ss xs all.1)
+
+pub fronts_seen : (number : ℕ) (sources : List Seen) (fronts : List LogFront) → AllFrom IsFrontOutcome number sources (map Ok fronts) → AllZip IsFrontSeen sources fronts
+fronts_seen number [] [] all = tt
+fronts_seen number [] (f ∷ fs) all = absurd all
+fronts_seen number (s ∷ ss) [] all = absurd all
+fronts_seen number (s ∷ ss) (f ∷ fs) all = (all.0.front, fronts_seen (suc number) ss fs all.1)
+
 -- recovery may return the fault of the least log that has one
-pub log_refused : (limit : ℕ) (sources parts : List Seen) (outcomes : List (Result LogScan Fault)) (fault : Fault) → AllFrom (IsLogOutcome limit) 0 sources outcomes → IsFirstErr outcomes fault → IsAnsweredBy (λ seen. seen) sources parts fault
-log_refused limit sources parts outcomes fault all first =
-    let at = split (IsLogOutcome limit) 0 sources (map Ok first.done) (Err fault) first.rest (subst (AllFrom (IsLogOutcome limit) 0 sources) first.stands all) in
-    let whole = whole_logs limit 0 at.front first.done at.all_before in
-    let own = at.holds.fault in
+pub log_refused : {A : Type 0} {front : A → LogFront} {R : ℕ → Seen → Result A Fault → Type 0} → Says front R → (sources parts : List Seen) (outcomes : List (Result A Fault)) (fault : Fault)
+    → AllFrom R 0 sources outcomes → IsFirstErr outcomes fault → IsAnsweredBy (λ seen. seen) sources parts fault
+log_refused {A} {front} {R} says sources parts outcomes fault all first =
+    let at = split R 0 sources (map Ok first.done) (Err fault) first.rest (subst (AllFrom R 0 sources) first.stands all) in
+    let fronts = map front first.done in
+    let whole = read_logs at.front fronts (all_seen says 0 at.front first.done at.all_before) in
+    let own = says.fault at.place at.x fault at.holds in
     let more = some_logs at.back in
     let known = some_logs parts in
     let place : at.place ≡ length at.front = omega (arith, at.place_is) in
-    let here = subst (λ (n : ℕ). IsScanFault n own.0 fault) (place ∙ sym (as_many_logs limit 0 at.front first.done whole)) own.2 in
+    let here = subst (λ (n : ℕ). IsScanFault n own.0 fault) (place ∙ sym (as_many_logs at.front fronts whole)) own.2 in
     rw at.are (
       record {
         logs = whole.logs ++ own.0 ∷ more.0;
@@ -157,20 +208,20 @@ log_refused limit sources parts outcomes fault all first =
         parts_may = known.1;
         holds = fault_of_log whole.logs more.0 known.0 whole.readings own.0 fault whole.read here;
       },
-      blames_log at.front at.back parts at.x own.0 fault (subst (λ (n : ℕ). IsScanFault n own.0 fault) place own.2) at.holds.steady,
+      blames_log at.front at.back parts at.x own.0 fault (subst (λ (n : ℕ). IsScanFault n own.0 fault) place own.2) (says.steady at.place at.x fault at.holds),
     )
 
 -- recovery may return `Doubled` of the first log that is doubled, or, if none is, `Torn` of the first that is torn amid its worker's log
-pub writers_refused : (limit : ℕ) (sources parts : List Seen) (scans : List LogScan) (fault : Fault) → AllFrom (IsLogOutcome limit) 0 sources (map Ok scans)
-    → ((readings : List LogReading) → HaveNumbersOf scans readings → IsWritersFault readings fault) → IsAnsweredBy (λ seen. seen) sources parts fault
-writers_refused limit sources parts scans fault all is =
-    let whole = whole_logs limit 0 sources scans all in
-    by whole fault (is whole.readings (numbers_of limit 0 scans whole.readings whole.show))
+pub writers_refused : (sources parts : List Seen) (fronts : List LogFront) (fault : Fault) → AllZip IsFrontSeen sources fronts
+    → ((readings : List LogReading) → ShowFronts fronts readings → IsWritersFault readings fault) → IsAnsweredBy (λ seen. seen) sources parts fault
+writers_refused sources parts fronts fault all is =
+    let whole = read_logs sources fronts all in
+    by whole fault (is whole.readings whole.show)
   where
-    answered : (whole : AreWhole limit 0 sources scans) (fault : Fault) → IsVerdict whole.logs (some_logs parts).0 fault → OfSources (λ seen. seen) sources parts (λ ls ps. IsVerdictOrMemory ls ps fault)
+    answered : (whole : AreRead sources fronts) (fault : Fault) → IsVerdict whole.logs (some_logs parts).0 fault → OfSources (λ seen. seen) sources parts (λ ls ps. IsVerdictOrMemory ls ps fault)
     answered whole fault is = let ps = some_logs parts in record { logs = whole.logs; parts = ps.0; logs_may = whole.may; parts_may = ps.1; holds = λ _. is }
 
-    by : (whole : AreWhole limit 0 sources scans) (fault : Fault) → IsWritersFault whole.readings fault → IsAnsweredBy (λ seen. seen) sources parts fault
+    by : (whole : AreRead sources fronts) (fault : Fault) → IsWritersFault whole.readings fault → IsAnsweredBy (λ seen. seen) sources parts fault
     by whole (faults.Doubled i) is = (answered whole (faults.Doubled i) (whole.readings, whole.read, is), tt)
     by whole (faults.Torn i) is = (answered whole (faults.Torn i) (whole.readings, whole.read, is.0, is.1), tt)
     by whole fault is = absurd is
@@ -188,35 +239,37 @@ blames_part logs front back source (faults.PartSource part) is steady = rw (is, 
 blames_part logs front back source faults.Memory is steady = tt
 blames_part logs front back source fault is steady = absurd is
 
+-- logs with a cutoff are some logs
+pub has_logs : (cutoff : ℕ) (sources : List Seen) (fronts : List LogFront) → AllZip IsFrontSeen sources fronts → ((readings : List LogReading) → ShowFronts fronts readings → IsCutoff readings cutoff) → sources ≡ [] → ⊥
+has_logs cutoff [] [] all is none = absurd (omega (arith, (is [] tt).has.stands.1))
+has_logs cutoff [] (f ∷ fs) all is none = absurd all
+has_logs cutoff (s ∷ ss) fronts all is none = absurd cc
+
 -- recovery may return the fault of the least part whose source failed
-pub part_refused : (limit : ℕ) (sources parts : List Seen) (scans : List LogScan) (outcomes : List (Result PartScan Fault)) (fault : Fault) → AllFrom (IsLogOutcome limit) 0 sources (map Ok scans) → AllFrom IsPartOutcome 0 (read_parts sources parts) outcomes
-    → ((readings : List LogReading) → HaveNumbersOf scans readings → AreWriters readings) → IsFirstErr outcomes fault → IsAnsweredBy (λ seen. seen) sources parts fault
-part_refused limit [] parts scans outcomes fault logs all writers first = absurd (no_outcome (map Ok first.done) (subst (AllFrom IsPartOutcome 0 []) first.stands all))
-  where
-    no_outcome : (before : List (Result PartScan Fault)) → AllFrom IsPartOutcome 0 [] (before ++ Err fault ∷ first.rest) → ⊥
-    no_outcome [] all = all
-    no_outcome (b ∷ bs) all = all
-part_refused limit (s ∷ ss) parts scans outcomes fault logs all writers first =
+pub part_refused : (sources parts : List Seen) (fronts : List LogFront) (outcomes : List (Result PartScan Fault)) (fault : Fault) → (sources ≡ [] → ⊥) → AllZip IsFrontSeen sources fronts → ArePartOutcomes sources parts outcomes
+    → ((readings : List LogReading) → ShowFronts fronts readings → AreWriters readings) → IsFirstErr outcomes fault → IsAnsweredBy (λ seen. seen) sources parts fault
+part_refused [] parts fronts outcomes fault some logs all writers first = absurd (some refl)
+part_refused (s ∷ ss) parts fronts outcomes fault some logs all writers first =
     let at = split IsPartOutcome 0 parts (map Ok first.done) (Err fault) first.rest (subst (AllFrom IsPartOutcome 0 parts) first.stands all) in
     let place : at.place ≡ length at.front = omega (arith, at.place_is) in
-    let whole = whole_logs limit 0 (s ∷ ss) scans logs in
-    let sound : AreSoundLogs whole.logs = (whole.readings, whole.read, writers whole.readings (numbers_of limit 0 scans whole.readings whole.show)) in
+    let whole = read_logs (s ∷ ss) fronts logs in
+    let sound : AreSoundLogs whole.logs = (whole.readings, whole.read, writers whole.readings whole.show) in
     let known = some_logs parts in (
       record {
         logs = whole.logs;
         parts = known.0;
         logs_may = whole.may;
         parts_may = known.1;
-        holds = fault_of_part whole.logs known.0 at.place fault (omega (arith, as_many_logs limit 0 (s ∷ ss) scans whole)) sound at.holds.fault;
+        holds = fault_of_part whole.logs known.0 at.place fault (omega (arith, as_many_logs (s ∷ ss) fronts whole)) sound at.holds.fault;
       },
       subst (λ (l : List Seen). BlamesUnsteady (λ seen. seen) (s ∷ ss) l fault) (sym at.are) (blames_part (s ∷ ss) at.front at.back at.x fault (subst (λ (n : ℕ). IsPartScanFault n fault) place at.holds.fault) at.holds.steady),
     )
 
 -- recovery may return `NoLogs` if there is no log
-pub none_refused : (limit : ℕ) (sources parts : List Seen) (scans : List LogScan) → AllFrom (IsLogOutcome limit) 0 sources (map Ok scans) → scans ≡ [] → IsAnsweredBy (λ seen. seen) sources parts faults.NoLogs
-none_refused limit [] parts scans all none = let ps = some_logs parts in (record { logs = []; parts = ps.0; logs_may = tt; parts_may = ps.1; holds = λ other. refl }, tt)
-none_refused limit (s ∷ ss) parts [] all none = absurd all
-none_refused limit (s ∷ ss) parts (x ∷ xs) all none = absurd cc
+pub none_refused : (sources parts : List Seen) (fronts : List LogFront) → AllZip IsFrontSeen sources fronts → fronts ≡ [] → IsAnsweredBy (λ seen. seen) sources parts faults.NoLogs
+none_refused [] parts fronts all none = let ps = some_logs parts in (record { logs = []; parts = ps.0; logs_may = tt; parts_may = ps.1; holds = λ other. refl }, tt)
+none_refused (s ∷ ss) parts [] all none = absurd all
+none_refused (s ∷ ss) parts (f ∷ fs) all none = absurd cc
 
 -- recovery may return `Memory`
 pub memory_refused : (sources parts : List Seen) (fault : Fault) → fault ≡ faults.Memory → IsAnsweredBy (λ seen. seen) sources parts fault

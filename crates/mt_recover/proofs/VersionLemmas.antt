@@ -98,7 +98,7 @@ of_scans number [] [] numbers = refl
 of_scans number [] (l ∷ ls) numbers = absurd numbers
 of_scans number (s ∷ ss) [] numbers = absurd numbers
 of_scans number (s ∷ ss) (l ∷ ls) numbers =
-    omega (arith, ap (λ (front : LogFront). front.version) numbers.0.front, of_records number 0 l.records, of_scans (suc number) ss ls numbers.1, greatest_both (updates_from number 0 l.records) (all_updates (suc number) (records_of ls)))
+    omega (arith, ap (λ (front : LogFront). front.version) numbers.0.front.is, of_records number 0 l.records, of_scans (suc number) ss ls numbers.1, greatest_both (updates_from number 0 l.records) (all_updates (suc number) (records_of ls)))
 
 -- ---- the versions of entries
 

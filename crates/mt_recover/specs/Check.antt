@@ -2,10 +2,11 @@
 use Rattle.std.specs.Prelude.{◌≡◌, ℕ, suc, IsTrue, List, [], ◌∷◌, Result, IfOk, IfErr}
 use Rattle.std.specs.Option.{option_map}
 use Rattle.mt_words.specs.declared.fault.Fault.{Fault}
+use Rattle.mt_record.specs.declared.front.LogFront.{LogFront}
 use Rattle.mt_scan.specs.declared.checking.LogCheck.{LogCheck}
 use Rattle.mt_scan.specs.declared.part_scan.PartScan.{PartScan}
 use Rattle.mt_scan.specs.Sources.{Seen}
-use Rattle.mt_scan.specs.Scans.{OfTold, IsScanFault, failures_of}
+use Rattle.mt_scan.specs.Scans.{OfTold, IsScanFault, IsSoundFront, failures_of}
 use Rattle.mt_scan.specs.Checks.{IsCheckOf}
 use Rattle.mt_scan.specs.PartScans.{IsKnown}
 use Rattle.mt_scan.specs.PartsShown.{known_by, IsPartScanFault}
@@ -26,12 +27,21 @@ pub record IsPartOutcome (part : ℕ) (seen : Seen) (outcome : Result PartScan F
   pub fault : IfErr outcome (IsPartScanFault part)
   pub steady : IsTrue seen.steady → failures_of outcome ≡ 0
 
+-- this is the front of the log that a source has
+abbrev pub IsFrontSeen : Seen → LogFront → Type 0
+IsFrontSeen seen front = OfTold seen.told (λ bytes. IsSoundFront bytes front)
+
 -- `R` holds for the items of two lists, place by place, and for their number, which counts up from `number`; the lists are equally long
 abbrev pub AllFrom : {A B : Type 0} → (ℕ → A → B → Type 0) → ℕ → List A → List B → Type 0
 AllFrom R number [] [] = Unit {0}
 AllFrom R number [] (y ∷ ys) = ⊥
 AllFrom R number (x ∷ xs) [] = ⊥
 AllFrom R number (x ∷ xs) (y ∷ ys) = R number x y × AllFrom R (suc number) xs ys
+
+-- the outcomes of the scans of the parts, if there are logs
+abbrev pub ArePartOutcomes : List Seen → List Seen → List (Result PartScan Fault) → Type 0
+ArePartOutcomes [] parts outcomes = Unit {0}
+ArePartOutcomes (log ∷ logs) parts outcomes = AllFrom IsPartOutcome 0 parts outcomes
 
 -- where recovery of logs and parts begins: the window and the choice of a checkpoint are those of the facts
 pub record IsStartOf (logs parts : List (List ℕ)) (start : Start) : Type 0 where

@@ -1,19 +1,14 @@
 -- Holes: updates that may be missing between two segments of a worker's log, though both are there.
-use Rattle.std.specs.Prelude.{ℕ, ◌+◌, ◌==◌, ◌&&◌, Bool, false, min, Option, Some, None, List, find, is_some, nat_lt, if◌then◌else◌}
+use Rattle.std.specs.Prelude.{ℕ, ◌&&◌, Bool, min, Option, None, List, find, is_some, nat_lt, if◌then◌else◌}
 use Rattle.std.specs.Option.{option_map}
-use Rattle.mt_record.specs.declared.feed.head.Segment.{Segment}
 use Rattle.mt_record.specs.Logs.{LogReading, times_of}
 use Rattle.mt_record.specs.LogTexts.{greatest}
+use Rattle.mt_scan.specs.Segments.{is_just_before}
 use Rattle.mt_replay.specs.declared.window.Window.{Window}
 
 -- the last timestamp of a file by itself: the greatest of its times
 abbrev pub last_of : LogReading → ℕ
 last_of file = greatest (times_of file)
-
--- whether both are segments of one worker's log, and the first comes directly before the second
-abbrev pub is_just_before : Option Segment → Option Segment → Bool
-is_just_before (Some a) (Some b) = (a.worker == b.worker) && (a.number + 1 == b.number)
-is_just_before a b = false
 
 -- whether the other file is the segment directly before this one, and ends below this one's `from` and below the cutoff
 abbrev pub ends_short : ℕ → LogReading → LogReading → Bool

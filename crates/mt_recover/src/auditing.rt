@@ -49,7 +49,7 @@ fn audit_found<R: Threads + Sync>(
     requires { IsFound found }
     ensures { (logs parts : List (List ℕ)) → IsFoundOf logs parts found → IfOk result (λ clashes. IsAuditOf logs parts clashes.items) }
 {
-    let Found { scans, start } = found;
+    let Found { scans, start, .. } = found;
     let pieces = Pieces::new(MOST_PIECES).unwrap();
     let cutting = Cutting::Sampled(pieces);
     let (divided, _) = divide(

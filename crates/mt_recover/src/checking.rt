@@ -1,15 +1,15 @@
 //! Checks logs and checkpoint parts: what is in each of them, and where recovery would begin. No store is made.
-ghost use Rattle.std.specs.Prelude.{◌≡◌, ℕ, List, map, IfOk, IfErr};
+ghost use Rattle.std.specs.Prelude.{ℕ, List, map, IfOk, IfErr};
+ghost use Rattle.std.specs.List.{AllZip};
 ghost use Rattle.mt_scan.specs.Sources.{Seen};
-ghost use Rattle.mt_recover.specs.Check.{AllFrom, IsLogChecked, IsPartOutcome, IsStartOf};
-ghost use Rattle.mt_recover.specs.Inputs.{OfSources, IsAnsweredBy};
-ghost use Rattle.mt_recover.specs.Steps.Outcomes.{IsLogOutcome};
+ghost use Rattle.mt_recover.specs.Check.{AllFrom, IsFrontSeen, IsLogChecked, IsPartOutcome};
+ghost use Rattle.mt_recover.specs.Inputs.{IsAnsweredBy};
+ghost use Rattle.mt_recover.specs.Steps.Outcomes.{IsFrontOutcome};
 
-use crate::by_workers::{by_workers, in_turn, numbered};
-use crate::found::{Start, find};
-use crate::scans::Outcomes;
+use crate::by_workers::{all_done, by_workers, in_turn, numbered};
 use crate::workers::Workers;
-use mt_scan::{LogCheck, LogScan, PartScan, Source, check_log, scan_part};
+use mt_record::LogFront;
+use mt_scan::{LogCheck, PartScan, Source, check_log, scan_part};
 use mt_words::{Fault, Memory};
 use std::alloc::Global;
 use std::thread::Threads;
@@ -62,46 +62,30 @@ pub fn check_parts<R: Threads + Sync, S: Source + Send>(
     )
 }
 
-/// Returns where recovery of the logs and parts with these checks begins. Err: the fault that recovery names.
-pub fn start_of(
+/// Returns the fronts of the checked logs. Err: the fault of the least log that has one, or out of memory.
+pub fn fronts_of(
     alloc: Global,
     checks: Vec<Result<LogCheck, Fault>>,
-    parts: Vec<Result<PartScan, Fault>>,
-) -> Result<Start, Fault>
-    ensures start { (limit : ℕ) (log_sources part_sources : List Seen) → AllFrom (IsLogChecked limit) 0 log_sources checks.items → AllFrom IsPartOutcome 0 part_sources parts.items →
-        IfOk result (λ start. OfSources (λ seen. seen) log_sources part_sources (λ ls ps. IsStartOf ls ps start)) }
-    ensures fault { (limit : ℕ) (log_sources part_sources : List Seen) → AllFrom (IsLogChecked limit) 0 log_sources checks.items → AllFrom IsPartOutcome 0 part_sources parts.items →
-        IfErr result (IsAnsweredBy (λ seen. seen) log_sources part_sources) }
+) -> Result<Vec<LogFront>, Fault>
+    ensures fronts { IfOk result (λ fronts. (limit : ℕ) (logs : List Seen) → AllFrom (IsLogChecked limit) 0 logs checks.items → AllZip IsFrontSeen logs fronts.items) }
+    ensures fault { (limit : ℕ) (logs parts : List Seen) → AllFrom (IsLogChecked limit) 0 logs checks.items → IfErr result (IsAnsweredBy (λ seen. seen) logs parts) }
 {
-    if checks.is_empty() {
-        return Err(Fault::NoLogs);
-    }
-    let logs = outcomes_of(alloc, checks)?;
-    Ok(find(alloc, Outcomes { logs, parts })?.start)
-}
-
-/// Returns the scans of the checked logs, without updates.
-fn outcomes_of(
-    alloc: Global,
-    checks: Vec<Result<LogCheck, Fault>>,
-) -> Result<Vec<Result<LogScan, Fault>>, Memory>
-    ensures { IfOk result (λ outcomes. (limit : ℕ) (sources : List Seen) → AllFrom (IsLogChecked limit) 0 sources checks.items → AllFrom (IsLogOutcome 0) 0 sources outcomes.items) }
-{
-    in_turn(
+    let fronts = in_turn(
         alloc,
         numbered(alloc, checks)?,
-        &|(log, check): (usize, Result<LogCheck, Fault>)| -> Result<LogScan, Fault>
-            ensures { (limit : ℕ) (seen : Seen) → IsLogChecked limit log seen check → IsLogOutcome 0 log seen result }
-        { outcome_of(alloc, log, check) },
-    )
+        &|(log, check): (usize, Result<LogCheck, Fault>)| -> Result<LogFront, Fault>
+            ensures { (limit : ℕ) (seen : Seen) → IsLogChecked limit log seen check → IsFrontOutcome log seen result }
+        { front_of(log, check) },
+    )?;
+    all_done(alloc, fronts)
 }
 
-/// Returns the scan of the checked log with this number, without updates.
-fn outcome_of(alloc: Global, log: usize, check: Result<LogCheck, Fault>) -> Result<LogScan, Fault>
-    ensures { (limit : ℕ) (seen : Seen) → IsLogChecked limit log seen check → IsLogOutcome 0 log seen result }
+/// Returns the front of the checked log with this number.
+fn front_of(log: usize, check: Result<LogCheck, Fault>) -> Result<LogFront, Fault>
+    ensures { (limit : ℕ) (seen : Seen) → IsLogChecked limit log seen check → IsFrontOutcome log seen result }
 {
     match check {
-        Ok(check) => check.scan(alloc, log),
+        Ok(check) => check.sound_front(log),
         Err(fault) => Err(fault),
     }
 }

@@ -48,11 +48,11 @@ mod working;
 
 pub use assembling::assemble;
 pub use auditing::audit;
-pub use checking::{check_logs, check_parts, start_of};
+pub use checking::{check_logs, check_parts, fronts_of};
 pub use dividing::{DivideTask, DividedTask, Dividing};
 pub use failure::{Failure, Refusal};
 pub use fed::Fed;
-pub use found::Start;
+pub use found::{Start, start_of};
 pub use haul::Haul;
 pub use history::{Fate, History, history_of};
 pub use holes::hole_before;

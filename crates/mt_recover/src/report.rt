@@ -80,7 +80,11 @@ impl Report {
         ensures report { (logs parts : List (List ℕ)) (is : IsFoundOf logs parts found) →
             IfOk result (λ counted. IsFoundIn is.start.basis.facts counted.0) }
     {
-        let Found { scans, start } = found;
+        let Found {
+            scans,
+            fronts,
+            start,
+        } = found;
         let Start { window, choice } = start;
         let Choice {
             chosen,
@@ -89,7 +93,7 @@ impl Report {
         } = choice;
         let report = Report {
             logs: scans.len(),
-            writers: writer_count(&scans),
+            writers: writer_count(&fronts),
             records: total(&scans, |scan| scan.front.count),
             marks: total(&scans, |scan| scan.marks),
             torn: scans.iter().filter(|scan| scan.front.torn()).count(),
@@ -99,7 +103,7 @@ impl Report {
             cutoff: window.cutoff,
             checkpoint: chosen.as_ref().map(|checkpoint| checkpoint.number),
             begin: window.begin,
-            holes: hole_count(&scans, window),
+            holes: hole_count(&fronts, window),
             skipped,
             nameless,
             entries: entry_count(&chosen),

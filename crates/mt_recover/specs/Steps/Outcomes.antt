@@ -3,18 +3,25 @@ use Rattle.std.specs.Prelude.{◌≡◌, ℕ, IsTrue, Option, None, List, [], �
 use Rattle.std.specs.List.{filter_map}
 use Rattle.mt_words.specs.declared.fault.Fault.{Fault}
 use Rattle.mt_board.specs.Board.{least_of}
+use Rattle.mt_record.specs.declared.front.LogFront.{LogFront}
 use Rattle.mt_scan.specs.declared.log_scan.LogScan.{LogScan}
 use Rattle.mt_scan.specs.declared.part_scan.PartScan.{PartScan}
 use Rattle.mt_scan.specs.Sources.{Seen}
 use Rattle.mt_scan.specs.Scans.{OfTold, IsScanFault, failures_of}
 use Rattle.mt_scan.specs.Dropping.{HasAllBelow, noted_for}
-pub use Rattle.mt_recover.specs.Check.{AllFrom, IsPartOutcome}
+pub use Rattle.mt_recover.specs.Check.{AllFrom, IsFrontSeen, IsPartOutcome}
 pub use Rattle.mt_recover.specs.Fed.{in_memory}
 use Rattle.mt_recover.specs.declared.scans.Outcomes.{Outcomes}
 
 -- the answer of the scan of a log: a scan that dropped no update below `limit`, or a fault of that scan; a steady source is never reported as failed
 pub record IsLogOutcome (limit log : ℕ) (seen : Seen) (outcome : Result LogScan Fault) : Type 0 where
   pub scan : IfOk outcome (λ scan. OfTold seen.told (λ bytes. HasAllBelow limit log bytes scan))
+  pub fault : IfErr outcome (λ fault. OfTold seen.told (λ bytes. IsScanFault log bytes fault))
+  pub steady : IsTrue seen.steady → failures_of outcome ≡ 0
+
+-- the front of a checked log, or a fault of that check; a steady source is never reported as failed
+pub record IsFrontOutcome (log : ℕ) (seen : Seen) (outcome : Result LogFront Fault) : Type 0 where
+  pub front : IfOk outcome (IsFrontSeen seen)
   pub fault : IfErr outcome (λ fault. OfTold seen.told (λ bytes. IsScanFault log bytes fault))
   pub steady : IsTrue seen.steady → failures_of outcome ≡ 0
 

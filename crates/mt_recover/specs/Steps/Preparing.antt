@@ -1,19 +1,29 @@
 -- The steps of preparing: what was found, its counts, and what each log left.
-use Rattle.std.specs.Prelude.{◌≡◌, ◌<◌, ◌^◌, ℕ, List, length, map, filter, ◌++◌, IsPermutation}
+use Rattle.std.specs.Prelude.{◌≡◌, ◌<◌, ◌^◌, ℕ, List, length, map, filter, ◌++◌, IsPermutation, None, Result, Ok}
+use Rattle.std.specs.Option.{option_map}
 use Rattle.mt_words.specs.declared.fault.Fault.{Fault}
 use Rattle.mt_words.specs.declared.fault.Fault.TheVariants as faults
 use Rattle.mt_words.specs.declared.record.Change.{Change}
 use Rattle.mt_words.specs.declared.update.Update.{Update}
+use Rattle.mt_record.specs.declared.front.LogFront.{LogFront}
 use Rattle.mt_record.specs.Logs.{LogReading}
 use Rattle.mt_replay.specs.declared.window.Window.{Window}
 use Rattle.mt_replay.specs.Cells.{AreApart}
 use Rattle.mt_replay.specs.Divided.{DividedView}
 use Rattle.mt_replay.specs.Ranges.{dealt_by}
 use Rattle.mt_replay.specs.Survivors.{in_window, is_early}
-use Rattle.mt_scan.specs.Segments.{IsDoubled, IsTornAmid, IsFirst}
+use Rattle.mt_scan.specs.declared.choice.Choice.{Choice}
+use Rattle.mt_scan.specs.declared.part_scan.PartScan.{PartScan}
+use Rattle.mt_scan.specs.Choosing.{IsChoiceOf, checkpoint_in}
+use Rattle.mt_scan.specs.Cutoff.{IsCutoff}
+use Rattle.mt_scan.specs.Firsts.{IsFirstOrNone}
+use Rattle.mt_scan.specs.PartsShown.{known_by}
+use Rattle.mt_scan.specs.Scans.{ShowFronts}
+use Rattle.mt_scan.specs.Segments.{AreWriters, IsDoubled, IsTornAmid, IsGap, IsFirst}
 use Rattle.mt_recover.specs.Steps.LogScans.{ShowAll}
 use Rattle.mt_recover.specs.Check.{IsStartOf}
 use Rattle.mt_recover.specs.declared.found.Found.{Found}
+use Rattle.mt_recover.specs.declared.found.Start.{Start}
 use Rattle.mt_recover.specs.declared.report.Report.{Report}
 use Rattle.mt_recover.specs.Recovery.{Basis, begin_of, records_of, survivors}
 use Rattle.mt_recover.specs.Report.{IsFoundIn, logged_updates}
@@ -26,9 +36,24 @@ IsWritersFault logs (faults.Doubled i) = IsFirst (IsDoubled logs) i
 IsWritersFault logs (faults.Torn i) = ((j : ℕ) → IsDoubled logs j → ⊥) × IsFirst (IsTornAmid logs) i
 IsWritersFault logs fault = ⊥
 
+-- what logs with these fronts and the scans of parts fix, if the logs have no gap
+pub record AreBases (fronts : List LogFront) (known : List PartScan) (cutoff : ℕ) (choice : Choice) : Type 0 where
+  pub writers : (logs : List LogReading) → ShowFronts fronts logs → AreWriters logs
+  pub is_cutoff : (logs : List LogReading) → ShowFronts fronts logs → IsCutoff logs cutoff
+  pub choice_is : IsChoiceOf (map known_by known) cutoff choice
+
+-- where recovery of logs with these fronts begins
+pub record StartsFrom (fronts : List LogFront) (parts : List (Result PartScan Fault)) (start : Start) : Type 0 where
+  pub known : List PartScan
+  pub parts_are : parts ≡ map Ok known
+  pub bases : AreBases fronts known start.window.cutoff start.choice
+  pub begin : start.window.begin ≡ begin_of (option_map checkpoint_in start.choice.chosen)
+  pub no_gap : (logs : List LogReading) → ShowFronts fronts logs → IsFirstOrNone (IsGap start.window.begin logs) None
+
 -- what was found in logs and parts: where recovery begins, and scans that show what the logs say
 pub record IsFoundOf (logs parts : List (List ℕ)) (found : Found) : Type 0 where
   pub start : IsStartOf logs parts found.start
+  pub fronts : found.fronts.items ≡ map (λ scan. scan.front) found.scans.items
   pub show : ShowAll start.basis.facts.cutoff 0 found.scans.items start.basis.facts.readings
 
 -- the versions of entries

@@ -6,18 +6,19 @@ use Rattle.std.proofs.lemmas.Iterator.Consumers.{YieldsList-from_filter, count_f
 use Rattle.std.proofs.lemmas.List.Sums.{length-filter}
 use Rattle.mt_record.specs.declared.front.Rest.TheVariants.{Torn}
 use Rattle.std.specs.Option.{option_map}
+use Rattle.mt_record.specs.declared.front.LogFront.{LogFront}
 use Rattle.mt_record.specs.Logs.{IsGreatestOf, times_of}
 use Rattle.mt_record.specs.LogTexts.{greatest}
 use Rattle.mt_scan.specs.declared.checkpoint.Checkpoint.{Checkpoint}
 use Rattle.mt_scan.specs.declared.log_scan.LogScan.{LogScan}
-use Rattle.mt_scan.specs.Scans.{last_in}
+use Rattle.mt_scan.specs.Scans.{last_in, ShowFronts}
 use Rattle.mt_scan.specs.Choice.{CheckpointReading}
 use Rattle.mt_replay.specs.declared.window.Window.{Window}
 use Rattle.mt_recover.specs.Holes.{has_hole}
 use Rattle.mt_recover.specs.Recovery.{entry_updates}
 use Rattle.mt_recover.specs.Report.{all_versions}
 use Rattle.mt_recover.proofs.VersionLemmas.{greatest_is}
-use Rattle.mt_recover.proofs.ReportLemmas.{as_many, records_counted, marks_counted, is_torn, torn_is, torn_counted, ends_are, last_is, numbers_of, same_number}
+use Rattle.mt_recover.proofs.ReportLemmas.{as_many, records_counted, marks_counted, is_torn, torn_is, torn_counted, ends_are, last_is, numbers_of, fronts_show, same_number}
 use Rattle.mt_recover.proofs.report.Report.of.Goals as goal
 
 pub returns-clause-report : goal.returns-clause-report
@@ -37,8 +38,9 @@ returns-clause-report c =
     c.greatest_of.ensures (λ (scan : LogScan). last_in scan.front) (λ x n e. search rules) ∙ ap (λ (ss : List LogScan). greatest (map (λ (scan : LogScan). last_in scan.front) ss)) c.deref-6.ensures.value in
     λ logs parts is.
     let numbers = numbers_of is.start.basis.facts.cutoff 0 scans is.start.basis.facts.readings is.show in
+    let fronts = subst (λ (fs : List LogFront). ShowFronts fs is.start.basis.facts.readings) (sym is.fronts) (fronts_show scans is.start.basis.facts.readings numbers) in
     record {
-      writers = (rw c.deref.ensures.value at c.writer_count.ensures) is.start.basis.facts.readings numbers;
+      writers = (rw c.deref.ensures.value at c.writer_count.ensures) is.start.basis.facts.readings fronts;
       logs = logs_are ∙ as_many logs scans is.start.basis.facts.readings is.start.basis.facts.read numbers;
       records = records ∙ records_counted scans is.start.basis.facts.readings numbers;
       marks = marks ∙ marks_counted scans is.start.basis.facts.readings numbers;
@@ -57,7 +59,7 @@ returns-clause-report c =
       nameless = is.start.nameless;
       holes =
           let holes : c.hole_count.result ≡ length (filter (has_hole found.start.window is.start.basis.facts.readings) is.start.basis.facts.readings) =
-          (rw c.deref-8.ensures.value at c.hole_count.ensures) is.start.basis.facts.readings numbers in
+          (rw c.deref-8.ensures.value at c.hole_count.ensures) is.start.basis.facts.readings fronts in
           holes ∙ ap (λ (w : Window). length (filter (has_hole w is.start.basis.facts.readings) is.start.basis.facts.readings)) is.start.window;
       entries = c.entry_count.ensures ∙ ap (λ (o : Option CheckpointReading). length (entry_updates o)) is.start.chosen;
     }
