@@ -22,6 +22,7 @@ pub extern "C" fn mtr_pair(store: &mut Place, key: &[u8], out: &mut [u8], count:
     ensures written { (outcome : Outcome) → HoldsOutcome outcome store.old.handle.value → result ≢ ABSENT → WritesPair outcome.store key.now out.old out.new count.new result }
     ensures absent { (outcome : Outcome) → HoldsOutcome outcome store.old.handle.value → result ≡ ABSENT → IsNoKey outcome.store key.now }
     ensures kept { result ≢ DONE → out.new ≡ out.old }
+    ensures untold { result ≢ DONE → result ≢ SHORT → count.new ≡ count.old }
     ensures certain { IsOneOf (DONE ∷ WRONG ∷ ABSENT ∷ SHORT ∷ []) result }
     ensures refused { IsRefusedUnless (Holds IsStore store.old.handle.value) result }
 {
@@ -52,6 +53,7 @@ pub extern "C" fn mtr_dump(
     ensures dumped { (outcome : Outcome) → HoldsOutcome outcome store.old.handle.value → Dumps (from start.now outcome.store) out.old out.new count.new pairs.new result }
     ensures kept { result ≢ DONE → out.new ≡ out.old }
     ensures untold { result ≢ DONE → pairs.new ≡ pairs.old }
+    ensures uncounted { result ≡ WRONG → count.new ≡ count.old }
     ensures certain { IsOneOf (DONE ∷ WRONG ∷ ABSENT ∷ SHORT ∷ []) result }
     ensures refused { IsRefusedUnless (Holds IsStore store.old.handle.value) result }
 {

@@ -30,6 +30,7 @@ pub extern "C" fn mtr_get(
         (bytes : List ℕ) × IsValue outcome.store key.now column bytes × Writes bytes out.old out.new count.new result }
     ensures absent { (outcome : Outcome) → HoldsOutcome outcome store.old.handle.value → result ≡ ABSENT → IsAbsent outcome.store key.now column }
     ensures kept { result ≢ DONE → out.new ≡ out.old }
+    ensures untold { result ≢ DONE → result ≢ SHORT → count.new ≡ count.old }
     ensures certain { IsOneOf (DONE ∷ WRONG ∷ ABSENT ∷ SHORT ∷ []) result }
     ensures refused { IsRefusedUnless (Holds IsStore store.old.handle.value) result }
 {

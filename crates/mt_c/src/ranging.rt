@@ -58,7 +58,7 @@ pub extern "C" fn mtr_hit(
     ensures written { (pairs : List Pair) → HoldsPairs pairs hits.old.handle.value → result ≢ ABSENT → IsPairAt (slice_get pairs i) columns.new out.old out.new count.new result }
     ensures absent { (pairs : List Pair) → HoldsPairs pairs hits.old.handle.value → result ≡ ABSENT → slice_get pairs i ≡ None }
     ensures kept { result ≢ DONE → out.new ≡ out.old }
-    ensures untold { result ≢ DONE → result ≢ SHORT → columns.new ≡ columns.old }
+    ensures untold { result ≢ DONE → result ≢ SHORT → (columns.new ≡ columns.old) × (count.new ≡ count.old) }
     ensures certain { IsOneOf (DONE ∷ WRONG ∷ ABSENT ∷ SHORT ∷ []) result }
     ensures refused { IsRefusedUnless (Holds AreHits hits.old.handle.value) result }
 {
@@ -88,7 +88,7 @@ pub extern "C" fn mtr_hit_column(
     ensures written { (pairs : List Pair) → HoldsPairs pairs hits.old.handle.value → result ≢ ABSENT → IsColumnAt (column_at pairs i nth) number.new out.old out.new count.new result }
     ensures absent { (pairs : List Pair) → HoldsPairs pairs hits.old.handle.value → result ≡ ABSENT → column_at pairs i nth ≡ None }
     ensures kept { result ≢ DONE → out.new ≡ out.old }
-    ensures untold { result ≢ DONE → result ≢ SHORT → number.new ≡ number.old }
+    ensures untold { result ≢ DONE → result ≢ SHORT → (number.new ≡ number.old) × (count.new ≡ count.old) }
     ensures certain { IsOneOf (DONE ∷ WRONG ∷ ABSENT ∷ SHORT ∷ []) result }
     ensures refused { IsRefusedUnless (Holds AreHits hits.old.handle.value) result }
 {

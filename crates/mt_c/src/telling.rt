@@ -55,6 +55,7 @@ pub extern "C" fn mtr_fault_text(
 ) -> u32
     ensures written { result ≢ MEMORY → result ≢ WRONG → (words : List ℕ) × Writes words out.old out.new count.new result }
     ensures kept { result ≢ DONE → out.new ≡ out.old }
+    ensures untold { result ≢ DONE → result ≢ SHORT → count.new ≡ count.old }
     ensures certain { IsOneOf (DONE ∷ MEMORY ∷ WRONG ∷ SHORT ∷ []) result }
     ensures refused { IsRefusedUnless ((found : Fault) × CanBeTold found × (fault.now ≡ c_fault found)) result }
 {
