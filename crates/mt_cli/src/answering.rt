@@ -148,6 +148,8 @@ fn print_report<O: Write>(report: &Report, is_json: bool, out: &mut O) -> io::Re
     for (name, value) in &report.values() {
         line.value(name, *value)?;
     }
+    line.number("last", &report.last)?;
+    line.number("version", &report.version)?;
     line.end()
 }
 

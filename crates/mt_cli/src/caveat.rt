@@ -16,8 +16,7 @@ pub enum Caveat {
 }
 
 impl Caveat {
-    /// Returns the exit status, after it printed the losses on `err`, if there are some. A write error does not change
-    /// the status.
+    /// Prints the losses on `err`, if there are some, and returns the exit status, also after a write error.
     pub fn tell<E: io::Write>(&self, err: &mut E) -> u8
         ensures { result ≤ 4 }
     {
@@ -71,7 +70,7 @@ impl Folder<'_> {
     /// Prints the losses, if there are some and they are to be told after an answer. A write error is passed over.
     pub fn tell_losses<E: io::Write>(&self, losses: Option<Losses>, err: &mut E) {
         match losses {
-            Some(losses) if self.tells_losses => losses.tell(err),
+            Some(losses) if self.is_verbose => losses.tell(err),
             _ => {}
         }
     }

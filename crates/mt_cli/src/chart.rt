@@ -3,7 +3,9 @@ ghost use Rattle.std.specs.Prelude.{◌<◌};
 
 use crate::checked::{Checked, CheckedLog};
 use crate::fates::{Fate, numbers_of};
-use mt_record::Rest;
+use crate::host::{Host, Run};
+use mt_record::{Rest, header_at, record_at};
+use mt_recover::Refusal;
 use mt_text::Shown;
 use mt_words::{Fault, Memory};
 use std::alloc::{AllocError, Global};
@@ -89,7 +91,6 @@ impl Axis {
 
 impl Chart {
     /// Returns the chart of what was checked. `firsts` are the timestamps of the first record of each log, if it has one.
-    /// Err: out of memory.
     pub fn of(
         alloc: Global,
         checked: &Checked<'_>,
@@ -122,8 +123,7 @@ impl Chart {
         })
     }
 
-    /// Prints the chart in lines of this width: the ends of the axis, a line for each row, and what the marks mean. Err:
-    /// write error.
+    /// Prints the chart in lines of this width: the ends of the axis, a line for each row, and what the marks mean.
     pub fn write<W: Write>(&self, width: usize, out: &mut W) -> io::Result<()> {
         let mut labels = 0;
         let mut notes = 0;
@@ -178,8 +178,7 @@ impl Chart {
     }
 }
 
-/// Returns the spans of a log: the hole before it, its records, the late ones among them, the cutoff, and how it ends, which
-/// hides the cutoff. Err: out of memory.
+/// Returns the spans of a log: the hole before it, its records, the late ones, the cutoff, and how it ends, which hides that.
 fn spans_of_log(
     alloc: Global,
     log: &CheckedLog<'_>,
@@ -280,4 +279,38 @@ fn write_blanks<W: Write>(count: usize, out: &mut W) -> io::Result<()> {
         out.write_all(b" ")?;
     }
     Ok(())
+}
+
+/// The bytes of a log that are read to find its first record, which has fewer.
+const READ: u64 = 1 << 23;
+
+impl<'a, R: Host> Run<'a, R> {
+    /// Prints a chart of what was checked, in lines of this width, or of the usual one.
+    pub fn draw_chart<W: Write>(
+        &self,
+        checked: &Checked<'_>,
+        width: Option<u64>,
+        out: &mut W,
+    ) -> Result<(), Refusal<'static>> {
+        let mut firsts = Vec::with_capacity(self.rt.alloc(), checked.logs.len())?;
+        for log in &checked.logs {
+            firsts.push(self.first_of(log.file.name)?)?;
+        }
+        let chart = Chart::of(self.rt.alloc(), checked, &firsts)?;
+        Ok(chart.write(width.unwrap_or(USUAL_WIDTH) as usize, out)?)
+    }
+
+    /// Returns the timestamp of the first record of the log of this name. None: it has none, or cannot be read again.
+    fn first_of(&self, name: &str) -> Result<Option<u64>, Memory> {
+        let Some(bytes) = self.read_again(name, READ)? else {
+            return Ok(None);
+        };
+        let Some((head, rest)) = header_at(&bytes) else {
+            return Ok(None);
+        };
+        match record_at(self.rt.alloc(), head.format, 0, rest)? {
+            Some((record, _)) => Ok(Some(record.timestamp())),
+            None => Ok(None),
+        }
+    }
 }

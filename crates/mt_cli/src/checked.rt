@@ -1,4 +1,5 @@
 //! What a check finds in the files of a folder, as lines.
+use crate::beginning::version_of;
 use crate::caveat::Losses;
 use crate::ending::Ending;
 use crate::fates::{Fate, PartState, numbers_of};
@@ -52,8 +53,7 @@ pub struct CheckedPart<'a> {
 const MEMORY_A_BYTE: u64 = 3;
 
 impl<'a> Checked<'a> {
-    /// Prints a line for each log, for each part, for each checkpoint, and for the cutoff if there is one. Err: write error,
-    /// or out of memory.
+    /// Prints a line for each log, for each part, for each checkpoint, and for the cutoff if there is one.
     pub fn write<W: Write>(
         &self,
         alloc: Global,
@@ -79,20 +79,44 @@ impl<'a> Checked<'a> {
                 ("log", Cell::Number(self.log_of(start.window.cutoff))),
                 ("begin", Cell::Number(Some(start.window.begin))),
                 ("memory", Cell::Number(self.memory())),
+                ("last", Cell::Number(Some(self.last()))),
+                ("version", Cell::Number(Some(self.version()))),
             ];
             write_row(&row, is_json, out)?;
         }
         Ok(())
     }
 
-    /// Returns the first log whose last timestamp is the cutoff.
+    /// Returns the first file that ends at the cutoff, as does the log that it belongs to.
     fn log_of(&self, cutoff: u64) -> Option<u64> {
         for (number, log) in self.logs.iter().enumerate() {
-            if self.last_of(log) == Some(cutoff) {
+            let ends = matches!(log.front(), Some(front) if front.last() == cutoff);
+            if ends && self.last_of(log) == Some(cutoff) {
                 return Some(number as u64);
             }
         }
         None
+    }
+
+    /// Returns the greatest timestamp of the logs.
+    fn last(&self) -> u64 {
+        let mut last = 0;
+        for front in self.logs.iter().filter_map(CheckedLog::front) {
+            last = front.last().max(last);
+        }
+        last
+    }
+
+    /// Returns the greatest version of the logs and of the entries of the chosen checkpoint.
+    pub fn version(&self) -> u64 {
+        let mut version = match &self.start {
+            Ok(start) => start.choice.chosen.as_ref().map_or(0, version_of),
+            Err(_) => 0,
+        };
+        for front in self.logs.iter().filter_map(CheckedLog::front) {
+            version = front.version.max(version);
+        }
+        version
     }
 
     /// Returns the last timestamp of the log that this file belongs to: of a segment, the greatest of its worker's.
@@ -114,8 +138,7 @@ impl<'a> Checked<'a> {
         Some(last)
     }
 
-    /// Returns about how many bytes of memory recovery takes: three times those of all files. None: the size of one is
-    /// not known.
+    /// Returns about how many bytes of memory recovery takes. None: the size of a file is not known.
     pub fn memory(&self) -> Option<u64> {
         let mut bytes: u64 = 0;
         for log in &self.logs {
@@ -240,25 +263,26 @@ impl CheckedPart<'_> {
     /// Returns its line. The reason ends it, since it has blanks.
     fn fields(&self, number: usize) -> [Field<'_>; 11] {
         let [checkpoint, place, parts, begin, end, entries] = match self.state {
-            PartState::Whole(part) => [
-                Some(u64::from(part.checkpoint)),
-                Some(u64::from(part.place)),
-                Some(u64::from(part.parts)),
-                Some(part.begin),
-                Some(part.end),
-                Some(part.entries as u64),
-            ],
+            PartState::Whole(part) => {
+                let [place, parts] = [u64::from(part.place), u64::from(part.parts)];
+                let [begin, end, entries] = [part.begin, part.end, part.entries as u64];
+                let numbers = [
+                    u64::from(part.checkpoint),
+                    place,
+                    parts,
+                    begin,
+                    end,
+                    entries,
+                ];
+                numbers.map(Some)
+            }
             PartState::Broken {
                 checkpoint,
                 entries,
-            } => [
-                Some(u64::from(checkpoint)),
-                None,
-                None,
-                None,
-                None,
-                Some(entries),
-            ],
+            } => {
+                let checkpoint = Some(u64::from(checkpoint));
+                [checkpoint, None, None, None, None, Some(entries)]
+            }
             PartState::Nameless | PartState::Unread => [None; 6],
         };
         [

@@ -136,8 +136,7 @@ impl<'a, R: Host> Run<'a, R> {
         }
     }
 
-    /// Reads what follows the header and the complete records of a log. None: nothing does, or the file cannot be read
-    /// again.
+    /// Reads what follows the header and the complete records of a log. None: nothing, or it cannot be read again.
     fn ending_of(
         &self,
         name: &str,
@@ -161,8 +160,7 @@ impl<'a, R: Host> Run<'a, R> {
     }
 }
 
-/// Returns where the hole before each log begins, None if there is none, or the fault of the first log that has one. Err:
-/// out of memory.
+/// Returns where the hole before each log begins, None if there is none, or the fault of the first log that has one.
 fn holes_of(
     alloc: Global,
     checks: &[Result<LogCheck, Fault>],

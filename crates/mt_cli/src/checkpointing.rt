@@ -10,7 +10,6 @@ use crate::row::{Cell, write_row};
 use crate::saving::{Site, make_folder};
 use mt_checkpoint::{Checkpoint, PlanFault};
 use mt_recover::MOST_FILES;
-use std::fs::{File, OpenFile};
 use std::io::{self, BufWriter, Write};
 use std::mem;
 
@@ -40,6 +39,9 @@ impl<'a, R: Host> Run<'a, R> {
             ("checkpoint", Cell::Number(Some(u64::from(new.number)))),
             ("parts", Cell::Number(Some(u64::from(checkpoint.parts())))),
             ("cutoff", Cell::Number(Some(report.cutoff))),
+            // The log of the new folder has a mark beyond the cutoff.
+            ("last", Cell::Number(report.cutoff.checked_add(1))),
+            ("version", Cell::Number(Some(report.version))),
         ];
         write_row(&row, false, out)?;
         out.flush()?;
@@ -50,8 +52,7 @@ impl<'a, R: Host> Run<'a, R> {
     }
 }
 
-/// Writes the parts of the checkpoint into the new folder, and then the log. Nothing is written if the program could not
-/// read so many files.
+/// Writes the parts of the checkpoint into the new folder, and then the log. Refuses more files than can be read.
 fn write_all<R: Host>(
     rt: &R,
     new: &NewFolder<'_>,
@@ -75,11 +76,11 @@ fn write_all<R: Host>(
     site.sync()?;
     let mut log = Vec::new(rt.alloc());
     checkpoint.append_log(&mut log)?;
-    site.write(LOG, &log)?;
+    site.write(LOG, LOG, &log)?;
     site.sync()
 }
 
-/// Writes a part into a new file of this name, and syncs it.
+/// Writes a part into a new file of this name, in one step.
 fn write_part<R: Host>(
     site: &Site<'_, R>,
     checkpoint: &Checkpoint<'_>,
@@ -89,10 +90,10 @@ fn write_part<R: Host>(
     requires { part < length checkpoint.now.parts }
 {
     let path = site.path(name)?;
-    let mut file = File::create_new(site.rt, &path)?;
+    let mut file = site.begin(&path, &path)?;
     let mut out = BufWriter::with_capacity(site.rt.alloc(), PRINTED_AT_ONCE, &mut file)?;
     checkpoint.write_part(part, &mut out)?;
     out.flush()?;
     drop(out);
-    file.sync_all()
+    site.finish(file, &path)
 }

@@ -1,11 +1,13 @@
 //! Answers the subcommand `cut`.
 ghost use Rattle.std.specs.Prelude.{◌≤◌, length, IfSome};
 
+use crate::answering::PRINTED_AT_ONCE;
 use crate::host::Host;
 use crate::request::Cut;
-use crate::segment_end::SegmentEnd;
 use crate::stop::Stop;
-use mt_record::{Head, LogFront, Stretch, cut_log, encode_head, header_at, salvage_records};
+use mt_record::{
+    Head, LogFeed, LogFront, Segment, Stretch, cut_log, encode_head, header_at, salvage_records,
+};
 use mt_recover::{Refusal, read_log};
 use mt_words::Fault;
 use std::alloc::Global;
@@ -114,8 +116,7 @@ fn head_of<'a>(how: &Cut, bytes: &'a [u8]) -> Option<(Head, &'a [u8])>
     }
 }
 
-/// Prints a line for each span of bytes that was skipped. The first stretch begins at the byte `start`. A write error is
-/// passed over.
+/// Prints a line for each span of bytes that was skipped. The first stretch begins at the byte `start`.
 fn tell_skipped<E: Write>(start: usize, stretches: &[Stretch<'_>], err: &mut E) {
     let mut end = start;
     let mut records = 0usize;
@@ -130,5 +131,57 @@ fn tell_skipped<E: Write>(start: usize, stretches: &[Stretch<'_>], err: &mut E) 
                 "mtrecover: skipped: from={from} to={end} bytes={bytes} records={records}"
             );
         }
+    }
+}
+
+/// Where a segment of a worker's log ends once it is cut.
+#[derive(Clone, Copy)]
+pub struct SegmentEnd {
+    segment: Segment,
+    /// Its last timestamp.
+    last: u64,
+}
+
+impl SegmentEnd {
+    /// Returns where the log of this header and of these records, one list after another, ends. None: it is no segment.
+    pub fn of(
+        alloc: Global,
+        head: Head,
+        records: &[&[u8]],
+    ) -> Result<Option<SegmentEnd>, Refusal<'static>> {
+        let Some(segment) = head.segment else {
+            return Ok(None);
+        };
+        Ok(Some(SegmentEnd {
+            segment,
+            last: last_of(alloc, head, records)?,
+        }))
+    }
+
+    /// Prints what is lost if a later segment is there. A write error is passed over.
+    pub fn tell<E: Write>(&self, err: &mut E) {
+        let SegmentEnd { segment, last } = *self;
+        let Segment { worker, number } = segment;
+        let _ = writeln!(
+            err,
+            "mtrecover: segment {number} of worker {worker} now ends at {last}: if a later one is there, updates from {last} up to its from are lost"
+        );
+    }
+}
+
+/// Returns the last timestamp of the log of this header and of these records, one list after another. Err: out of memory.
+pub fn last_of(alloc: Global, head: Head, records: &[&[u8]]) -> Result<u64, Refusal<'static>> {
+    let mut feed = LogFeed::keeping(alloc);
+    // The feed keeps a fault.
+    let _ = feed.feed(&encode_head(alloc, head)?);
+    for list in records {
+        for chunk in list.chunks(PRINTED_AT_ONCE) {
+            let _ = feed.feed(chunk);
+            let _ = feed.drop_kept();
+        }
+    }
+    match feed.front() {
+        Ok(front) => Ok(front.last()),
+        Err(fault) => Err(Refusal::from(fault.of_log(0))),
     }
 }

@@ -1,6 +1,5 @@
 //! What follows the complete records of a log, or the entries of a part.
-use crate::hints::Hints;
-use crate::zeros::zeros_at_end;
+use crate::hints::{Hints, zeros_at_end};
 use mt_record::{header_at, salvage_records};
 use mt_words::{Format, Memory};
 use std::alloc::Global;
@@ -33,7 +32,6 @@ pub struct Again {
 
 impl Ending {
     /// Returns what follows in a log of this format, whose complete records lie from the byte `start` to the byte `end`.
-    /// Err: out of memory.
     pub fn of_log(
         alloc: Global,
         format: Format,

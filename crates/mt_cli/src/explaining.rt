@@ -1,21 +1,38 @@
-//! The second line of a failure: which file it names, what the system says, and what to try.
-use crate::file_names::Names;
+//! Prints a failure: its line, and a second one with the file that it names, what the system says, and what to try.
+ghost use Rattle.std.specs.Prelude.{◌≤◌, IfErr};
+
 use crate::host::{Host, Run};
+use crate::listing::Names;
 use mt_recover::{Failure, Refusal};
 use mt_text::Shown;
 use mt_words::Fault;
-use std::io::{self, Write};
+use std::io::{self, ErrorKind, Write};
+
+/// What to try if parts are there, but no logs.
+const NO_LOGS_BESIDE_PARTS: &str =
+    "put the logs back; parts of a checkpoint are there: resume --no-logs begins a log above its \
+     end, which loses what logs had from its begin on, unless they were deleted because it stands for them";
 
 /// Prints the second line of a failure: the name of the file with the fault, if these names have it; the reason that the
 /// system gave, if it gave one; and what to try. Err: write error.
 pub fn explain<E: Write>(refusal: &Refusal<'_>, names: &Names, err: &mut E) -> io::Result<()> {
-    if let Some(name) = file_of(&refusal.failure, names) {
+    let file = file_of(&refusal.failure, names);
+    if let Some(name) = file {
         write!(err, "file: {}; ", Shown(name))?;
     }
     if let Some(reason) = &refusal.reason {
         write!(err, "reason: {reason}; ")?;
     }
-    writeln!(err, "try: {}", advice(&refusal.failure))
+    let advice = match (&refusal.failure, &refusal.reason) {
+        (Failure::Recovery(Fault::NoLogs), _) if !names.parts.is_empty() => NO_LOGS_BESIDE_PARTS,
+        (Failure::List(_), Some(reason)) if reason.kind() == ErrorKind::NotADirectory => {
+            "name the folder that the file is in, or print the file by records"
+        }
+        (Failure::Recovery(Fault::Header { .. }), _)
+            if matches!(file, Some(name) if name.ends_with(".mtc")) => "print a part by records",
+        (failure, _) => advice(failure),
+    };
+    writeln!(err, "try: {advice}")
 }
 
 impl<'a, R: Host> Run<'a, R> {
@@ -31,14 +48,8 @@ impl<'a, R: Host> Run<'a, R> {
             Failure::Open(name) => Some(*name),
             _ => None,
         };
-        let reason = match unread {
-            Some(name) => self.why_unread(name),
-            None => None,
-        };
-        Refusal {
-            failure: refusal.failure,
-            reason,
-        }
+        let reason = unread.and_then(|name| self.why_unread(name));
+        Refusal { reason, ..refusal }
     }
 }
 
@@ -98,5 +109,31 @@ fn advice_on(fault: &Fault) -> &'static str {
         }
         Fault::Missing { .. } => "run the command again",
         Fault::Memory => "use a machine with more memory",
+    }
+}
+
+/// Prints the failure on `err`, with a second line if there are names, and returns its exit status.
+pub fn tell<E: Write>(refusal: &Refusal<'_>, names: Option<&Names>, err: &mut E) -> u8
+    ensures { result ≤ 3 }
+{
+    let status = refusal.tell("mtrecover", err);
+    if let Some(names) = names {
+        // A write error does not change the status.
+        let _ = explain(refusal, names, err);
+    }
+    status
+}
+
+/// Passes on an Ok. For an Err, tells the failure as `tell` does and returns its exit status as the Err.
+pub fn or_tell<T: Drop, E: Write>(
+    outcome: Result<T, Refusal<'_>>,
+    names: Option<&Names>,
+    err: &mut E,
+) -> Result<T, u8>
+    ensures { IfErr result (λ status. status ≤ 3) }
+{
+    match outcome {
+        Ok(value) => Ok(value),
+        Err(refusal) => Err(tell(&refusal, names, err)),
     }
 }

@@ -4,23 +4,25 @@ ghost use Rattle.std.specs.Prelude.{◌≤◌, length};
 use crate::answering::PRINTED_AT_ONCE;
 use crate::cutting::{cut, cut_out};
 use crate::ending::WIDEST;
-use crate::failure::tell;
-use crate::file_names::Names;
+use crate::halt::Halt;
 use crate::host::Host;
-use crate::request::{FileCommand, FileQuery};
+use crate::listing::Names;
+use crate::request::{Cut, FileCommand, FileQuery};
+use crate::saving::write_path;
 use crate::stop::Stop;
 use mt_record::{PartFault, PartFeed, PartHead, header_at, part_header_at};
 use mt_recover::{Refusal, read_log};
 use mt_text::{Selection, write_entries, write_head, write_part_head, write_records};
 use mt_words::Fault;
 use std::alloc::Global;
-use std::io::{BufWriter, Write};
+use std::io::{self, BufWriter, ErrorKind, Write};
 
 /// Answers a query on a file, and returns the exit status: 0 if all was printed, or what `Stop::status` says. What follows the
-/// complete records or entries is told on `err`.
+/// complete records or entries is told on `err`. A log is not cut to a terminal.
 pub fn answer_file<R: Host, O: Write, E: Write>(
     rt: &R,
     file: &FileCommand<'_>,
+    at_terminal: bool,
     out: &mut O,
     err: &mut E,
 ) -> u8
@@ -32,20 +34,47 @@ pub fn answer_file<R: Host, O: Write, E: Write>(
         ref query,
     } = *file;
     let answered = match query {
-        FileQuery::Cut(how) => match cut(rt, path, how, is_verbose, out, err) {
-            Ok(()) => Ok(None),
-            Err(refusal) => Err(refusal),
+        FileQuery::Cut(_, None) if at_terminal => Err(Halt::stuck(
+            rt.alloc(),
+            "print",
+            "a log at a terminal",
+            io::Error::new(ErrorKind::Unsupported, "its bytes are no text"),
+            "name a file by -o, or print the records",
+        )),
+        FileQuery::Cut(how, target) => cut_into(rt, path, how, *target, is_verbose, out, err),
+        FileQuery::Records(selection, at) => match records(rt, path, selection, *at, out) {
+            Ok(stop) => Ok(stop),
+            Err(refusal) => Err(Halt::from(refusal)),
         },
-        FileQuery::Records(selection, at) => records(rt, path, selection, *at, out),
     };
     match answered {
         Ok(stop) => tell_stop(stop, is_verbose.then_some(path), err),
         // The file is log 0.
-        Err(refusal) => match Names::of_log(rt.alloc(), path) {
-            Ok(names) => tell(&refusal, is_verbose.then_some(&names), err),
-            Err(_) => tell(&refusal, None, err),
+        Err(halt) => match Names::of_log(rt.alloc(), path) {
+            Ok(names) => halt.tell(is_verbose.then_some(&names), err),
+            Err(_) => halt.tell(None, err),
         },
     }
+}
+
+/// Cuts a log into the file of the path `target`, or else prints it.
+fn cut_into<'a, R: Host, O: Write, E: Write>(
+    rt: &R,
+    path: &'a str,
+    how: &Cut,
+    target: Option<&str>,
+    is_verbose: bool,
+    out: &mut O,
+    err: &mut E,
+) -> Result<Option<Stop>, Halt<'a>> {
+    let Some(target) = target else {
+        cut(rt, path, how, is_verbose, out, err)?;
+        return Ok(None);
+    };
+    let mut bytes = Vec::new(rt.alloc());
+    cut(rt, path, how, is_verbose, &mut bytes, err)?;
+    write_path(rt, target, &bytes)?;
+    Ok(None)
 }
 
 /// Tells where records or entries stop, and returns the exit status. If there is a name, tells what may have happened to the

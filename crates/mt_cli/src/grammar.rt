@@ -1,4 +1,5 @@
 //! The arguments that the program takes.
+use self::Kind::{Flag, From, List, Number, OneOf, UpTo, Value, Word};
 use clap::builder::ValueParser;
 use clap::{Arg, ArgAction, Command};
 use mt_record::ENOUGH_RECORDS;
@@ -57,315 +58,175 @@ enum Kind {
     List(u64),
 }
 
-pub const FOLDER: Argument = Argument {
-    name: "DIR",
-    kind: Kind::Word,
-    help: "The folder with the logs (.mtl) and checkpoint parts (.mtc)",
-};
+/// Returns an argument from its name, what it takes and its help.
+macro_rules! argument {
+    ($name:expr, $kind:expr, $help:expr) => {
+        Argument { name: $name, kind: $kind, help: $help }
+    };
+}
 
-pub const OUT: Argument = Argument {
-    name: "OUT",
-    kind: Kind::Word,
-    help: "The folder to make for the checkpoint; it must not be there",
-};
+pub const FOLDER: Argument =
+    argument! { "DIR", Word, "The folder with the logs (.mtl) and checkpoint parts (.mtc)" };
 
-pub const LOG: Argument = Argument {
-    name: "FILE",
-    kind: Kind::Word,
-    help: "The log (.mtl)",
-};
+pub const OUT: Argument =
+    argument! { "OUT", Word, "The folder to make for the checkpoint; it must not be there" };
 
-pub const LOG_OR_PART: Argument = Argument {
-    name: "FILE",
-    kind: Kind::Word,
-    help: "The log (.mtl) or the part (.mtc)",
-};
+pub const LOG: Argument = argument! { "FILE", Word, "The log (.mtl)" };
 
-pub const KEY: Argument = Argument {
-    name: "KEY",
-    kind: Kind::Word,
-    help: "The key in hexadecimal, or with --text as text; '' is the empty key",
-};
+pub const LOG_OR_PART: Argument = argument! { "FILE", Word, "The log (.mtl) or the part (.mtc)" };
 
-pub const COUNT: Argument = Argument {
-    name: "COUNT",
-    kind: Kind::Number(4_294_967_295),
-    help: "Print at most this many keys",
-};
+pub const KEY: Argument =
+    argument! { "KEY", Word, "The key in hexadecimal, or with --text as text; '' is the empty key" };
 
-pub const SHELL: Argument = Argument {
-    name: "SHELL",
-    kind: Kind::OneOf(&["bash"]),
-    help: "The shell",
-};
+pub const COUNT: Argument =
+    argument! { "COUNT", Number(4_294_967_295), "Print at most this many keys" };
 
-pub const WORKERS: Argument = Argument {
-    name: "workers",
-    kind: Kind::UpTo("N", MOST_WORKERS as u64, "4"),
-    help: "Number of threads: 1 to 64",
-};
+pub const SHELL: Argument = argument! { "SHELL", OneOf(&["bash"]), "The shell" };
 
-pub const PIECES: Argument = Argument {
-    name: "pieces",
-    kind: Kind::UpTo("P", MOST_PIECES as u64, "512"),
-    help: "Cut the keys into at most this many ranges, which threads replay: 1 to 4096",
-};
+pub const WORKERS: Argument =
+    argument! { "workers", UpTo("N", MOST_WORKERS as u64, "4"), "Number of threads: 1 to 64" };
 
-pub const VERBOSE: Argument = Argument {
-    name: "verbose",
-    kind: Kind::Flag,
-    help: "After a failure, print its file or the system's reason, and what to try; after an answer, what it lost; of a damaged log, what may have happened",
-};
+pub const PIECES: Argument = argument! { "pieces", UpTo("P", MOST_PIECES as u64, "512"),
+    "Cut the keys into at most this many ranges, which threads replay: 1 to 4096" };
 
-pub const PROGRESS: Argument = Argument {
-    name: "progress",
-    kind: Kind::Flag,
-    help: "Print on standard error how far it has come, at most a line a second",
-};
+pub const VERBOSE: Argument = argument! { "verbose", Flag,
+    "After a failure, print its file or the system's reason, and what to try; after an answer, what it lost; of a damaged log, what may have happened" };
 
-pub const JSON: Argument = Argument {
-    name: "json",
-    kind: Kind::Flag,
-    help: "Print a JSON object a line",
-};
+pub const PROGRESS: Argument =
+    argument! { "progress", Flag, "Print on standard error how far it has come, at most a line a second" };
 
-pub const TEXT: Argument = Argument {
-    name: "text",
-    kind: Kind::Flag,
-    help: "Keys and values are text with escapes, as \\n and \\x00, and not hexadecimal",
-};
+pub const JSON: Argument = argument! { "json", Flag, "Print a JSON object a line" };
 
-pub const STRICT: Argument = Argument {
-    name: "strict",
-    kind: Kind::Flag,
-    help: "End with status 4 if anything is torn, late, skipped or nameless, or there is a hole between segments",
-};
+pub const TEXT: Argument =
+    argument! { "text", Flag, "Keys and values are text with escapes, as \\n and \\x00, and not hexadecimal" };
 
-pub const STRICT_SHELL: Argument = Argument {
-    name: "strict",
-    kind: Kind::Flag,
-    help: "End with the first status that is not 0, and not with 0",
-};
+pub const STRICT: Argument = argument! { "strict", Flag,
+    "End with status 4 if anything is torn, late, skipped or nameless, or there is a hole between segments" };
 
-pub const STATUS: Argument = Argument {
-    name: "status",
-    kind: Kind::Flag,
-    help: "Print a line status=N after each answer",
-};
+pub const STRICT_SHELL: Argument =
+    argument! { "strict", Flag, "End with the first status that is not 0, and not with 0" };
 
-pub const STRICT_RESUME: Argument = Argument {
-    name: "strict",
-    kind: Kind::Flag,
-    help: "Change nothing, and end with status 4, if anything is torn, late, skipped or nameless, or there is a hole between segments",
-};
+pub const STATUS: Argument =
+    argument! { "status", Flag, "Print a line status=N after each answer" };
 
-pub const DRY_RUN: Argument = Argument {
-    name: "dry-run",
-    kind: Kind::Flag,
-    help: "Change nothing: print what would be done",
-};
+pub const STRICT_RESUME: Argument = argument! { "strict", Flag,
+    "Change nothing, and end with status 4, if anything is torn, late, skipped or nameless, or there is a hole between segments" };
 
-pub const CHART: Argument = Argument {
-    name: "chart",
-    kind: Kind::Flag,
-    help: "Print a chart: a row for each log and checkpoint, over its timestamps",
-};
+pub const DRY_RUN: Argument =
+    argument! { "dry-run", Flag, "Change nothing: print what would be done" };
 
-pub const WIDTH: Argument = Argument {
-    name: "width",
-    kind: Kind::From("N", LEAST_WIDTH, GREATEST_WIDTH),
-    help: "The width of the chart in characters: 40 to 1000; without it that of the terminal (COLUMNS), or 80",
-};
+pub const NO_LOGS: Argument = argument! { "no-logs", Flag,
+    "If there is no log, begin one above the end of the best checkpoint. What logs had from its begin on is lost, \
+    unless they were deleted because it stands for them" };
 
-pub const NUMBER: Argument = Argument {
-    name: "number",
-    kind: Kind::UpTo("N", 4_294_967_295, "1"),
-    help: "The checkpoint's number: 1 to 4294967295",
-};
+pub const OUTPUT: Argument =
+    argument! { "output", Value("OUT"), "Write into this file, which may be FILE itself, in one step, and sync it" };
 
-pub const PART_LIMIT: Argument = Argument {
-    name: "limit",
-    kind: Kind::UpTo("BYTES", MOST_BYTES, "1073741824"),
-    help: "Begin another part rather than write more bytes: 1 to 1073741824",
-};
+pub const CHART: Argument =
+    argument! { "chart", Flag, "Print a chart: a row for each log and checkpoint, over its timestamps" };
 
-pub const EXISTS: Argument = Argument {
-    name: "exists",
-    kind: Kind::Flag,
-    help: "Print nothing: the status is 0 if the key is there, 4 if not",
-};
+pub const WIDTH: Argument = argument! { "width", From("N", LEAST_WIDTH, GREATEST_WIDTH),
+    "The width of the chart in characters: 40 to 1000; without it that of the terminal (COLUMNS), or 80" };
 
-pub const TO: Argument = Argument {
-    name: "to",
-    kind: Kind::Value("KEY"),
-    help: "Print only keys below this one",
-};
+pub const NUMBER: Argument =
+    argument! { "number", UpTo("N", 4_294_967_295, "1"), "The checkpoint's number: 1 to 4294967295" };
 
-pub const PREFIX: Argument = Argument {
-    name: "prefix",
-    kind: Kind::Value("KEY"),
-    help: "Print only keys that begin with this one",
-};
+pub const PART_LIMIT: Argument = argument! { "limit", UpTo("BYTES", MOST_BYTES, "1073741824"),
+    "Begin another part rather than write more bytes: 1 to 1073741824" };
 
-pub const COLUMNS: Argument = Argument {
-    name: "columns",
-    kind: Kind::List(GREATEST_COLUMN as u64),
-    help: "Print only columns of these numbers, as 0,3. A key without any is printed too",
-};
+pub const EXISTS: Argument =
+    argument! { "exists", Flag, "Print nothing: the status is 0 if the key is there, 4 if not" };
 
-pub const FROM: Argument = Argument {
-    name: "from",
-    kind: Kind::From("N", 0, u64::MAX),
-    help: "Print from this number on, counted from 0",
-};
+pub const TO: Argument = argument! { "to", Value("KEY"), "Print only keys below this one" };
 
-pub const LIMIT: Argument = Argument {
-    name: "limit",
-    kind: Kind::From("N", 0, u64::MAX),
-    help: "Print at most this many",
-};
+pub const PREFIX: Argument =
+    argument! { "prefix", Value("KEY"), "Print only keys that begin with this one" };
 
-pub const RECORD_KEY: Argument = Argument {
-    name: "key",
-    kind: Kind::Value("KEY"),
-    help: "Print only those of this key, in hexadecimal",
-};
+pub const COLUMNS: Argument = argument! { "columns", List(GREATEST_COLUMN as u64),
+    "Print only columns of these numbers, as 0,3. A key without any is printed too" };
 
-pub const AT: Argument = Argument {
-    name: "at",
-    kind: Kind::From("BYTE", 0, u64::MAX),
-    help: "Read on at this byte, for example after a fault, also if the header is lost; numbers count from there",
-};
+pub const FROM: Argument =
+    argument! { "from", From("N", 0, u64::MAX), "Print from this number on, counted from 0" };
 
-pub const SKIP: Argument = Argument {
-    name: "skip",
-    kind: Kind::Flag,
-    help: "Go on after damage, where 8 records in a row begin, or fewer that end the log. \
-     A record with a timestamp above the next one's is damaged, if that is not below the one before. \
-     Complete records within the value of a damaged one are printed",
-};
+pub const LIMIT: Argument =
+    argument! { "limit", From("N", 0, u64::MAX), "Print at most this many" };
 
-pub const HEADER: Argument = Argument {
-    name: "header",
-    kind: Kind::Value("HEADER"),
-    help: "Print this header in place of a lost one, and go on as with --skip: FORMAT:FROM, as 1:0, or of a segment 3:FROM:WORKER:SEGMENT",
-};
+pub const RECORD_KEY: Argument =
+    argument! { "key", Value("KEY"), "Print only those of this key, in hexadecimal" };
 
-pub const BELOW: Argument = Argument {
-    name: "below",
-    kind: Kind::From("TIMESTAMP", 0, u64::MAX),
-    help: "Print only records with a timestamp below this one, for example the cutoff",
-};
+pub const AT: Argument = argument! { "at", From("BYTE", 0, u64::MAX),
+    "Read on at this byte, for example after a fault, also if the header is lost; numbers count from there" };
+
+pub const SKIP: Argument =
+    argument! { "skip", Flag, "Go on after damage, where 8 records in a row begin, or fewer that end the log. \
+    A record with a timestamp above the next one's is damaged, if that is not below the one before. \
+    Complete records within the value of a damaged one are printed" };
+
+pub const HEADER: Argument = argument! { "header", Value("HEADER"),
+    "Print this header in place of a lost one, and go on as with --skip: FORMAT:FROM, as 1:0, or of a segment 3:FROM:WORKER:SEGMENT" };
+
+pub const BELOW: Argument = argument! { "below", From("TIMESTAMP", 0, u64::MAX),
+    "Print only records with a timestamp below this one, for example the cutoff" };
 
 /// The arguments that say which store is recovered, and how.
 const RECOVERY: &[Argument] = &[FOLDER, WORKERS, VERBOSE, PROGRESS, PIECES];
 
+/// Returns subcommands, each from its name, its arguments, what it does, and the text after its help.
+macro_rules! subcommands {
+    ($($name:expr, [$($argument:expr),*], $about:expr, $example:expr;)*) => {
+        &[$(Subcommand { name: $name, about: $about, example: $example, arguments: &[$($argument),*] }),*]
+    };
+}
+
 /// The questions over a recovered store, with the arguments beside those of `RECOVERY`.
-const QUESTIONS: &[Subcommand] = &[
-    Subcommand {
-        name: "report",
-        about: "Prints what recovery found in the logs and parts, as NAME=VALUE lines",
-        example: "Example: mtrecover report examples/store",
-        arguments: &[JSON, STRICT],
-    },
-    Subcommand {
-        name: "get",
-        about: "Prints a key with its columns, or `absent`",
-        example: "Example: mtrecover get examples/store 666967",
-        arguments: &[JSON, TEXT, KEY, EXISTS],
-    },
-    Subcommand {
-        name: "history",
-        about: "Prints each update of a key in the logs and the chosen checkpoint, and what became of it",
-        example: "Example: mtrecover history examples/store 666967",
-        arguments: &[JSON, TEXT, KEY],
-    },
-    Subcommand {
-        name: "range",
-        about: "Prints the first keys at or after a key, with their columns",
-        example: "Example: mtrecover range examples/store 6b 2",
-        arguments: &[JSON, TEXT, KEY, COUNT, TO, PREFIX, COLUMNS],
-    },
-    Subcommand {
-        name: "dump",
-        about: "Prints all keys with their columns",
-        example: "Example: mtrecover dump examples/store --workers 8",
-        arguments: &[JSON, TEXT],
-    },
-];
+const QUESTIONS: &[Subcommand] = subcommands! {
+    "report", [JSON, STRICT],
+        "Prints what recovery found in the logs and parts, as NAME=VALUE lines",
+        "Example: mtrecover report examples/store";
+    "get", [JSON, TEXT, KEY, EXISTS],
+        "Prints a key with its columns, or `absent`",
+        "Example: mtrecover get examples/store 666967";
+    "history", [JSON, TEXT, KEY],
+        "Prints each update of a key in the logs and the chosen checkpoint, and what became of it",
+        "Example: mtrecover history examples/store 666967";
+    "range", [JSON, TEXT, KEY, COUNT, TO, PREFIX, COLUMNS],
+        "Prints the first keys at or after a key, with their columns",
+        "Example: mtrecover range examples/store 6b 2";
+    "dump", [JSON, TEXT],
+        "Prints all keys with their columns",
+        "Example: mtrecover dump examples/store --workers 8";
+};
 
 /// The other subcommands, which follow them in the help.
-const OTHERS: &[Subcommand] = &[
-    Subcommand {
-        name: "shell",
-        about: "Recovers once, then answers lines of standard input: report, get, history, range or dump, without DIR",
-        example: "Example: printf 'get 666967\\ndump --json\\n' | mtrecover shell examples/store",
-        arguments: &[
-            FOLDER,
-            WORKERS,
-            VERBOSE,
-            PROGRESS,
-            PIECES,
-            STRICT_SHELL,
-            STATUS,
-        ],
-    },
-    Subcommand {
-        name: "audit",
-        about: "Prints each version of a key that two or more surviving log updates share, with their records",
-        example: "Example: mtrecover audit examples/store",
-        arguments: &[FOLDER, WORKERS, VERBOSE, PROGRESS],
-    },
-    Subcommand {
-        name: "check",
-        about: "Prints what is in each log, part and checkpoint, all that is wrong, and where recovery begins",
-        example: "Example: mtrecover check examples/store",
-        arguments: &[FOLDER, WORKERS, VERBOSE, PROGRESS, JSON, CHART, WIDTH],
-    },
-    Subcommand {
-        name: "resume",
-        about: "Makes the logs and parts those with which a server goes on after a crash; the store stays the same",
-        example: "Example: mtrecover resume DIR --dry-run",
-        arguments: &[
-            FOLDER,
-            WORKERS,
-            VERBOSE,
-            PROGRESS,
-            JSON,
-            STRICT_RESUME,
-            DRY_RUN,
-        ],
-    },
-    Subcommand {
-        name: "checkpoint",
-        about: "Writes the store as a checkpoint and a log into a new folder",
-        example: "Example: mtrecover checkpoint examples/store fresh",
-        arguments: &[
-            FOLDER, WORKERS, VERBOSE, PROGRESS, PIECES, OUT, NUMBER, PART_LIMIT,
-        ],
-    },
-    Subcommand {
-        name: "records",
-        about: "Prints the records of a log, or the entries of a part, with their numbers and the bytes where they begin",
-        example: "Example: mtrecover records examples/a.mtl --from 1 --limit 2",
-        arguments: &[LOG_OR_PART, VERBOSE, FROM, LIMIT, RECORD_KEY, AT, JSON],
-    },
-    Subcommand {
-        name: "cut",
-        about: "Prints a log of the complete records of a log, up to its fault or torn tail, or with --skip beyond it",
-        example: "To go on with a damaged log (docs/RUNBOOK.md has what that loses):\n\
-         \x20 test -e BACKUP || cp -a DIR BACKUP\n\
-         \x20 mtrecover cut BACKUP/w0.mtl --skip >DIR/w0.mtl\n\
-         \x20 mtrecover report DIR --strict",
-        arguments: &[LOG, VERBOSE, SKIP, HEADER, BELOW],
-    },
-    Subcommand {
-        name: "completions",
-        about: "Prints a script for a shell that completes arguments (`mtrecover help --man` prints the manual page)",
-        example: "Example: source <(mtrecover completions bash)",
-        arguments: &[SHELL],
-    },
-];
+const OTHERS: &[Subcommand] = subcommands! {
+    "shell", [FOLDER, WORKERS, VERBOSE, PROGRESS, PIECES, STRICT_SHELL, STATUS],
+        "Recovers once, then answers lines of standard input: report, get, history, range or dump, without DIR",
+        "Example: printf 'get 666967\\ndump --json\\n' | mtrecover shell examples/store";
+    "audit", [FOLDER, WORKERS, VERBOSE, PROGRESS],
+        "Prints each version of a key that two or more surviving log updates share, with their records",
+        "Example: mtrecover audit examples/store";
+    "check", [FOLDER, WORKERS, VERBOSE, PROGRESS, JSON, CHART, WIDTH],
+        "Prints what is in each log, part and checkpoint, all that is wrong, and where recovery begins",
+        "Example: mtrecover check examples/store";
+    "resume", [FOLDER, WORKERS, VERBOSE, PROGRESS, JSON, STRICT_RESUME, DRY_RUN, NO_LOGS],
+        "Makes the logs and parts those with which a server goes on after a crash; the store stays the same",
+        "Example: mtrecover resume DIR --dry-run";
+    "checkpoint", [FOLDER, WORKERS, VERBOSE, PROGRESS, PIECES, OUT, NUMBER, PART_LIMIT],
+        "Writes the store as a checkpoint and a log into a new folder",
+        "Example: mtrecover checkpoint examples/store fresh";
+    "records", [LOG_OR_PART, VERBOSE, FROM, LIMIT, RECORD_KEY, AT, JSON],
+        "Prints the records of a log, or the entries of a part, with their numbers and the bytes where they begin",
+        "Example: mtrecover records examples/a.mtl --from 1 --limit 2";
+    "cut", [LOG, VERBOSE, SKIP, HEADER, BELOW, OUTPUT],
+        "Prints a log of the complete records of a log, up to its fault or torn tail, or with --skip beyond it",
+        "To go on with a damaged log (docs/RUNBOOK.md has what that loses):\n\
+        \x20 test -e BACKUP || cp -a DIR BACKUP\n\
+        \x20 mtrecover cut BACKUP/w0.mtl --skip -o DIR/w0.mtl\n\
+        \x20 mtrecover report DIR --strict";
+    "completions", [SHELL],
+        "Prints a script for a shell that completes arguments (`mtrecover help --man` prints the manual page)",
+        "Example: source <(mtrecover completions bash)";
+};
 
 /// Returns the grammar of the arguments that the program takes. Err: out of memory.
 pub fn grammar<'a>(alloc: Global) -> Result<Command<'a>, AllocError> {
@@ -436,6 +297,7 @@ impl Argument {
                 0, greatest,
             )),
             Kind::Flag => arg.long(name).action(ArgAction::SetTrue),
+            Kind::Value(value) if value == OUT.name => option(arg, name, value).short('o'),
             Kind::Value(value) => option(arg, name, value),
             Kind::UpTo(value, greatest, default) => option(arg, name, value)
                 .value_parser(ValueParser::unsigned(1, greatest))

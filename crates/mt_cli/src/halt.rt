@@ -2,8 +2,9 @@
 ghost use Rattle.std.specs.Prelude.{◌≤◌};
 
 use crate::caveat::Caveat;
-use crate::failure::tell;
+use crate::explaining::tell;
 use crate::host::{Host, Run};
+use crate::listing::Names;
 use mt_checkpoint::PlanFault;
 use mt_recover::Refusal;
 use mt_text::Shown;
@@ -16,8 +17,8 @@ use std::io::{self, ErrorKind, Write};
 pub enum Halt<'a> {
     /// The files could not be read or have a fault, or the output failed.
     Refused(Refusal<'a>),
-    /// The store can have no such checkpoint.
-    Unplanned(PlanFault),
+    /// There can be no such checkpoint or log.
+    Unplanned(&'static str, PlanFault),
     /// Something could not be done with a file or a folder.
     Stuck {
         /// What, as `replace`.
@@ -55,48 +56,58 @@ impl<'a> Halt<'a> {
     }
 }
 
+impl Halt<'_> {
+    /// Prints it on `err`, with a second line if there are names, and returns the exit status, also after a write error.
+    pub fn tell<E: Write>(&self, names: Option<&Names>, err: &mut E) -> u8
+        ensures { result ≤ 3 }
+    {
+        match self {
+            Halt::Refused(refusal) => return tell(refusal, names, err),
+            Halt::Unplanned(what, fault) => {
+                let _ = writeln!(err, "mtrecover: no {what}: {fault}");
+                if names.is_some() {
+                    let _ = writeln!(err, "try: {}", advice_on(fault));
+                }
+            }
+            Halt::Stuck {
+                doing,
+                name,
+                reason,
+                advice,
+            } => {
+                let _ = writeln!(err, "mtrecover: cannot {doing} {}", Shown(name));
+                if names.is_some() {
+                    let _ = writeln!(err, "reason: {reason}; try: {advice}");
+                }
+            }
+        }
+        3
+    }
+}
+
 impl<'a, R: Host> Run<'a, R> {
-    /// Returns the exit status of a command: 0, 4 with a caveat, or that of the failure. Tells the caveat or the failure on
-    /// `err`, with a second line if that is wanted. A write error does not change the status.
+    /// Tells the caveat or the failure of a command on `err`, if there is one, and returns the exit status.
     pub fn end<E: Write>(&self, outcome: Result<Option<Caveat>, Halt<'_>>, err: &mut E) -> u8
         ensures { result ≤ 4 }
     {
+        let names = self.folder.is_verbose.then_some(self.names);
         match outcome {
             Ok(None) => 0,
             Ok(Some(caveat)) => caveat.tell(err),
-            Err(Halt::Refused(refusal)) if self.folder.is_verbose => {
-                tell(&self.with_reason(refusal), Some(self.names), err)
+            Err(Halt::Refused(refusal)) if names.is_some() => {
+                tell(&self.with_reason(refusal), names, err)
             }
-            Err(Halt::Refused(refusal)) => tell(&refusal, None, err),
-            Err(Halt::Unplanned(fault)) => {
-                let _ = writeln!(err, "mtrecover: no checkpoint: {fault}");
-                if self.folder.is_verbose {
-                    let _ = writeln!(err, "try: {}", advice_on(fault));
-                }
-                3
-            }
-            Err(
-                Halt::Stuck {
-                    doing,
-                    name,
-                    reason,
-                    advice,
-                },
-            ) => {
-                let _ = writeln!(err, "mtrecover: cannot {doing} {}", Shown(&name));
-                if self.folder.is_verbose {
-                    let _ = writeln!(err, "reason: {reason}; try: {advice}");
-                }
-                3
-            }
+            Err(halt) => halt.tell(names, err),
         }
     }
 }
 
 /// Returns what to try if there can be no such checkpoint.
-fn advice_on(fault: PlanFault) -> &'static str {
+fn advice_on(fault: &PlanFault) -> &'static str {
     match fault {
-        PlanFault::Timestamp => "begin another log: all logs have ended",
+        PlanFault::Timestamp => {
+            "run resume, which begins another log: all logs have ended; none if resume says so"
+        }
         PlanFault::Version => "none: no update can be newer",
         PlanFault::Parts => "give a greater --limit",
         PlanFault::Memory => "use a machine with more memory",
@@ -138,7 +149,7 @@ impl<'a> From<PlanFault> for Halt<'a> {
     fn from(fault: PlanFault) -> Halt<'a> {
         match fault {
             PlanFault::Memory => Halt::from(Fault::Memory),
-            _ => Halt::Unplanned(fault),
+            _ => Halt::Unplanned("checkpoint", fault),
         }
     }
 }

@@ -1,17 +1,19 @@
 //! What the program needs of the system, and a command on the files of a folder.
-use crate::file_names::Names;
+use crate::halt::Halt;
+use crate::listing::Names;
 use crate::progress::Meter;
 use crate::request::Folder;
+use mt_recover::{Failure, Refusal};
 use std::env::Env;
-use std::fs::Files;
-use std::io::Write;
+use std::fs::{File, Files, TryLockError};
+use std::io::{self, ErrorKind, Write};
 use std::thread::Threads;
 use std::time::Clock;
 
 /// What the program needs of the system.
-pub trait Host: AllocGlobal + Clock + Clone + Drop + Env + Files<File: Send> + Threads + Sync {}
+pub trait Host: AllocGlobal + Clock + Clone + Drop + Env + Files<File: Lock> + Threads + Sync {}
 
-impl<R: AllocGlobal + Clock + Clone + Drop + Env + Files<File: Send> + Threads + Sync> Host for R {}
+impl<R: AllocGlobal + Clock + Clone + Drop + Env + Files<File: Lock> + Threads + Sync> Host for R {}
 
 /// A command on the files of a folder.
 #[derive(Drop)]
@@ -39,5 +41,51 @@ impl<'a, R: Host> Run<'a, R> {
             u64::from(pieces),
             err,
         )
+    }
+}
+
+/// A file or folder that is open, and can be locked. Closing it ends the lock.
+pub trait Lock: Send {
+    /// Locks it, and does not wait. Shared locks go together. Err: another process has locked it, or the system does not.
+    fn lock_at_once(&self, is_shared: bool) -> io::Result<()>;
+}
+
+impl Lock for File {
+    fn lock_at_once(&self, is_shared: bool) -> io::Result<()> {
+        let locked = if is_shared {
+            self.try_lock_shared()
+        } else {
+            self.try_lock()
+        };
+        match locked {
+            Ok(()) => Ok(()),
+            Err(TryLockError::Error(error)) => Err(error),
+            Err(TryLockError::WouldBlock) => Err(io::Error::new(
+                ErrorKind::WouldBlock,
+                "another process uses it",
+            )),
+        }
+    }
+}
+
+/// Locks the folder of this path until what is returned is dropped, shared or not. None: it is not to be locked.
+pub fn lock_folder<'a, R: Host>(
+    rt: &R,
+    path: &'a str,
+    shared: Option<bool>,
+) -> Result<Option<R::File>, Halt<'a>> {
+    let Some(is_shared) = shared else {
+        return Ok(None);
+    };
+    let file = match File::open(rt, path) {
+        Ok(file) => file,
+        Err(error) => return Err(Halt::from(Refusal::of(Failure::List(path), error))),
+    };
+    match file.lock_at_once(is_shared) {
+        Ok(()) => Ok(Some(file)),
+        Err(error) => {
+            let advice = "stop the server first";
+            Err(Halt::stuck(rt.alloc(), "lock", path, error, advice))
+        }
     }
 }

@@ -10,7 +10,7 @@
 //!
 //! ```
 //! let words = vec![in rt.alloc(); "report".to_string(rt.alloc())?, folder]?;
-//! let around = Surroundings { at_terminal: false, columns: None };
+//! let around = Surroundings { at_terminal: false, prints_at_terminal: false, columns: None };
 //! let status = run_words(rt, &words, input, around, out, err);
 //! ```
 //!
@@ -18,9 +18,9 @@
 #![tactic(auto)]
 
 mod answering;
+mod beginning;
 mod caveat;
 mod chart;
-mod charting;
 mod checked;
 mod checking;
 mod checkpointing;
@@ -28,15 +28,12 @@ mod completions;
 mod cutting;
 mod ending;
 mod explaining;
-mod failure;
 mod fates;
-mod file_names;
 mod filing;
 mod grammar;
 mod halt;
 mod hints;
 mod host;
-mod line;
 mod listing;
 mod manual;
 mod opening;
@@ -48,19 +45,16 @@ mod resuming;
 mod row;
 mod running;
 mod saving;
-mod segment_end;
 mod shell;
 mod stop;
 mod texts;
 mod tracing;
 mod ways;
 mod words;
-mod zeros;
 
 pub use answering::print_answer;
-pub use file_names::Names;
-pub use host::Host;
-pub use listing::names;
+pub use host::{Host, Lock};
+pub use listing::{Names, list};
 pub use progress::Telling;
 pub use request::{
     CheckForm, Command, Cut, FileCommand, FileQuery, Folder, FolderCommand, NewFolder, Question,

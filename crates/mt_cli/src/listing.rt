@@ -1,29 +1,11 @@
 //! Lists the files of a folder.
-ghost use Rattle.std.specs.Prelude.{◌≤◌, IfErr};
-
-use crate::failure::or_tell;
-use crate::file_names::Names;
 use crate::host::Host;
 use mt_recover::{Failure, MOST_FILES, Refusal};
-use std::fs;
-use std::io::{self, Write};
+use std::alloc::{AllocError, Global};
+use std::{fs, io};
 
-/// Lists the logs and parts of the folder. Only the ending of a name decides whether it is a log or a part. An Err is
-/// the exit status; the line of the failure is then printed on `err`, with a second line if `is_verbose`.
-pub fn names<R: Host, E: Write>(
-    rt: &R,
-    folder: &str,
-    is_verbose: bool,
-    err: &mut E,
-) -> Result<Names, u8>
-    ensures status { IfErr result (λ status. status ≤ 3) }
-{
-    let no_names = Names::new(rt.alloc());
-    or_tell(list(rt, folder), is_verbose.then_some(&no_names), err)
-}
-
-/// Lists the logs and parts of the folder, each kind in byte order.
-fn list<'a, R: Host>(rt: &R, folder: &'a str) -> Result<Names, Refusal<'a>> {
+/// Lists the logs and parts of the folder, which the endings of their names tell, each kind in byte order.
+pub fn list<'a, R: Host>(rt: &R, folder: &'a str) -> Result<Names, Refusal<'a>> {
     let mut names = match read_names(rt, folder) {
         Ok(names) => names,
         Err(error) => return Err(Refusal::of(Failure::List(folder), error)),
@@ -44,4 +26,43 @@ fn read_names<R: Host>(rt: &R, folder: &str) -> io::Result<Names> {
         names.add(rt.alloc(), entry?.file_name())?;
     }
     Ok(names)
+}
+
+/// The names of the logs and parts of a folder, each kind in byte order.
+#[derive(Drop)]
+pub struct Names {
+    /// The names of the logs. They end in `.mtl`.
+    pub logs: Vec<String>,
+    /// The names of the parts. They end in `.mtc`.
+    pub parts: Vec<String>,
+}
+
+impl Names {
+    /// Creates an empty `Names`.
+    pub fn new(alloc: Global) -> Names {
+        Names {
+            logs: Vec::new(alloc),
+            parts: Vec::new(alloc),
+        }
+    }
+
+    /// Returns the name of one log, which may have any ending. Err: out of memory.
+    pub(crate) fn of_log(alloc: Global, name: &str) -> Result<Names, AllocError> {
+        let mut names = Names::new(alloc);
+        names.logs.push(String::from_str(alloc, name)?)?;
+        Ok(names)
+    }
+
+    /// Adds the name of a log or a part. Ignores any other name. Err: out of memory.
+    pub(crate) fn add(&mut self, alloc: Global, name: &str) -> Result<(), AllocError> {
+        let kind = if name.ends_with(".mtl") {
+            &mut self.logs
+        } else if name.ends_with(".mtc") {
+            &mut self.parts
+        } else {
+            return Ok(());
+        };
+        kind.push(String::from_str(alloc, name)?)?;
+        Ok(())
+    }
 }

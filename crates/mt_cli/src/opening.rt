@@ -25,7 +25,13 @@ pub enum OpenedFile<'c, F> {
 impl<'c, F: Read> Read for OpenedFile<'c, F> {
     fn read(&mut self, bytes: &mut [u8]) -> io::Result<usize> {
         match self {
-            OpenedFile::Opened(file) => file.read(bytes),
+            OpenedFile::Opened(file) => loop {
+                match file.read(bytes) {
+                    // A signal came meanwhile.
+                    Err(error) if error.kind() == ErrorKind::Interrupted => {}
+                    read => return read,
+                }
+            },
             OpenedFile::Replaced(rest) => rest.read(bytes),
             OpenedFile::Unopened => Err(io::Error::from(ErrorKind::NotFound)),
         }
@@ -125,8 +131,7 @@ impl<'a, R: Host> Run<'a, R> {
         }
     }
 
-    /// Returns the size of the file of this name in bytes. None: the system does not tell, or it is no regular file, as a
-    /// pipe.
+    /// Returns the size of the file of this name in bytes. None: the system does not tell, or it is no regular file.
     pub fn size_of(&self, name: &str) -> Option<u64> {
         let path = Path::new(self.folder.path)
             .join(self.rt.alloc(), name)
@@ -149,7 +154,8 @@ impl<'a, R: Host> Run<'a, R> {
             return Some(ErrorKind::IsADirectory.into());
         }
         if metadata.len() > MOST_BYTES {
-            return Some(ErrorKind::FileTooLarge.into());
+            let reason = "it is past the limit of 1,073,741,824 bytes; nothing of it is wrong";
+            return Some(io::Error::new(ErrorKind::FileTooLarge, reason));
         }
         if !metadata.is_file() {
             return None;

@@ -1,17 +1,17 @@
 //! Reads the questions of a shell.
 ghost use Rattle.std.specs.Prelude.{◌≤◌, IfErr};
 
-use crate::failure::{or_tell, tell};
-use crate::file_names::Names;
+use crate::explaining::{or_tell, tell};
 use crate::grammar::questions;
+use crate::listing::Names;
 use crate::request::Question;
 use crate::words::question_of;
 use clap::ArgMatches;
 use clap::error::ErrorKind;
 use mt_recover::{Failure, Refusal};
 use mt_words::Fault;
-use std::alloc::Global;
-use std::io::{self, Write};
+use std::alloc::{AllocError, Global};
+use std::io::{self, BufRead, Read, Write};
 
 /// Reads the question that these words ask. An Err is its status; what is to be printed then is printed: help on `out`,
 /// one line on `err` that says what is wrong, and if there are names a second one.
@@ -26,7 +26,7 @@ pub fn question<O: Write, E: Write>(
 {
     match parse(alloc, words) {
         Ok(matches) => or_tell(read(alloc, &matches), names, err),
-        Err(error) => Err(tell_error(alloc, &error, names, out, err)),
+        Err(error) => Err(tell_error(alloc, &error, true, names, out, err)),
     }
 }
 
@@ -41,10 +41,11 @@ fn read(alloc: Global, matches: &ArgMatches<'_>) -> Result<Question, Refusal<'st
     question_of(alloc, name, matches)
 }
 
-/// Prints what the parser reports, of an error the first paragraph as one line, and returns the status.
-fn tell_error<O: Write, E: Write>(
+/// Prints what the parser reports, and returns the exit status: help on `out`, an error on `err`, in a shell as one line.
+pub fn tell_error<O: Write, E: Write>(
     alloc: Global,
     error: &clap::Error,
+    in_shell: bool,
     names: Option<&Names>,
     out: &mut O,
     err: &mut E,
@@ -68,7 +69,11 @@ fn tell_error<O: Write, E: Write>(
         };
     }
     // A write error does not change the status.
-    let _ = write_paragraph(text.as_str(), err);
+    let _ = if in_shell {
+        write_paragraph(text.as_str(), err)
+    } else {
+        err.write_all(text.as_bytes())
+    };
     2
 }
 
@@ -86,4 +91,45 @@ fn write_paragraph<E: Write>(text: &str, err: &mut E) -> io::Result<()> {
         is_first = false;
     }
     err.write_all(b"\n")
+}
+
+/// The most bytes of a line, without its line feed.
+pub const LONGEST_LINE: usize = 65_536;
+
+/// How a line was read.
+#[derive(Clone, Copy)]
+pub enum Line {
+    /// It was read. It may be empty.
+    Whole,
+    /// It has more than `LONGEST_LINE` bytes, and was skipped.
+    TooLong,
+    /// There is no further line.
+    End,
+}
+
+/// Reads the next line into `line`, without its line feed, which the last line may lack. Err: read error, or out of memory.
+pub fn next_line<B: BufRead>(input: &mut B, line: &mut Vec<u8>) -> io::Result<Line> {
+    line.clear();
+    let count = Read::take(&mut *input, LONGEST_LINE as u64 + 1).read_until(b'\n', line)?;
+    if count == 0 {
+        return Ok(Line::End);
+    }
+    if line.last() == Some(&b'\n') {
+        line.pop();
+        return Ok(Line::Whole);
+    }
+    if count <= LONGEST_LINE {
+        return Ok(Line::Whole);
+    }
+    input.skip_until(b'\n')?;
+    Ok(Line::TooLong)
+}
+
+/// Returns the words of a line, which stand between blanks. `''` is an empty one. Err: out of memory.
+pub fn words_of(alloc: Global, line: &str) -> Result<Vec<&str>, AllocError> {
+    let mut words = Vec::new(alloc);
+    for word in line.split_ascii_whitespace() {
+        words.push(if word == "''" { "" } else { word })?;
+    }
+    Ok(words)
 }

@@ -29,21 +29,35 @@ pub enum FolderCommand<'a> {
     Checkpoint(NewFolder<'a>),
 }
 
+impl FolderCommand<'_> {
+    /// Returns whether others may read the folder meanwhile. None: and write it, since the command writes nothing.
+    pub fn lock(&self) -> Option<bool> {
+        match self {
+            FolderCommand::Resume(how) => Some(how.is_dry),
+            FolderCommand::Checkpoint(_) => Some(true),
+            _ => None,
+        }
+    }
+}
+
 /// A query on a file.
 #[derive(Drop)]
 pub struct FileCommand<'a> {
     pub path: &'a str,
     /// Whether a failure has a second line, which explains it.
     pub is_verbose: bool,
-    pub query: FileQuery,
+    pub query: FileQuery<'a>,
 }
 
 impl Command<'_> {
-    /// Makes a command on a folder tell how far it has come, and what its store lost or passed over, as fits a terminal.
+    /// Makes a command explain a failure, tell how far it has come, and what its store lost, as fits a terminal.
     pub fn tell_at_terminal(&mut self) {
-        if let Command::OnFolder(folder, _) = self {
-            folder.telling = folder.telling.at_terminal();
-            folder.tells_losses = true;
+        match self {
+            Command::OnFolder(folder, _) => {
+                folder.telling = folder.telling.at_terminal();
+                folder.is_verbose = true;
+            }
+            Command::OnFile(file) => file.is_verbose = true,
         }
     }
 
@@ -62,10 +76,8 @@ pub struct Folder<'a> {
     pub path: &'a str,
     /// The number of threads that work.
     pub workers: Workers,
-    /// Whether a failure has a second line, which explains it.
+    /// Whether a failure has a second line, which explains it, and what was lost or passed over is told after an answer.
     pub is_verbose: bool,
-    /// Whether what was lost or passed over is told after an answer.
-    pub tells_losses: bool,
     /// How it is told how far the command has come.
     pub telling: Telling,
     /// Recovery cuts the keys into at most this many pieces. None: the command takes no store.
@@ -101,6 +113,8 @@ pub struct Resume {
     pub is_strict: bool,
     /// Whether JSON is printed.
     pub is_json: bool,
+    /// Whether there is no log, and one is begun above the best checkpoint.
+    pub has_no_logs: bool,
 }
 
 /// A new folder for a checkpoint of a store, and what the checkpoint is to be.
@@ -133,11 +147,11 @@ pub struct Trace {
 
 /// What to print of one file.
 #[derive(Drop)]
-pub enum FileQuery {
+pub enum FileQuery<'a> {
     /// The wanted records of a log, or entries of a part, from this byte on, or from the first one on.
     Records(Selection, Option<u64>),
-    /// A log of the complete records of a log.
-    Cut(Cut),
+    /// A log of the complete records of a log, written into the file of this path if one is given.
+    Cut(Cut, Option<&'a str>),
 }
 
 /// How to cut a log.

@@ -1,5 +1,6 @@
 //! Answers the subcommand `resume`: makes the files of a folder those with which a server goes on after a crash.
 use crate::answering::PRINTED_AT_ONCE;
+use crate::beginning::{NewLog, end_row, log_row};
 use crate::caveat::Caveat;
 use crate::checked::CheckedPart;
 use crate::fates::{PartState, numbers_of};
@@ -8,12 +9,12 @@ use crate::host::{Host, Run};
 use crate::request::Resume;
 use crate::row::{Cell, write_row};
 use crate::saving::Site;
-use mt_record::resume_log;
+use mt_record::{record_at, resume_log};
+use mt_words::Format;
 use std::io::{BufWriter, Write};
 
 impl<'a, R: Host> Run<'a, R> {
-    /// Resumes the files, and prints what became of each. The cutoff and the checkpoint that recovery chooses are the same
-    /// after each step.
+    /// Resumes the files, and prints what became of each. Recovery gives the same store after each step.
     pub fn resume<O: Write, E: Write + Send>(
         &self,
         how: Resume,
@@ -25,11 +26,15 @@ impl<'a, R: Host> Run<'a, R> {
             folder: self.folder.path,
             advice: "run it again: it goes on, and the store is the same; or write the store into a new folder by checkpoint",
         };
+        if how.has_no_logs {
+            return self.begin_over_checkpoint(&site, how, out, err);
+        }
         for name in &self.names.logs {
-            site.expect_file(name.as_str())?;
+            site.expect(name.as_str(), false)?;
         }
         let checked = self.check_all(err)?;
         let losses = checked.losses();
+        let version = checked.version();
         let mut parts = checked.parts;
         if let Some(refusal) = checked.unopened {
             return Err(Halt::from(refusal));
@@ -38,11 +43,16 @@ impl<'a, R: Host> Run<'a, R> {
         if how.is_strict && losses.is_some() {
             return Ok(losses.map(Caveat::Losses));
         }
-        let chosen = match &start.choice.chosen {
-            Some(checkpoint) => Some(checkpoint.number),
-            None => None,
+        let base = &start.choice.chosen;
+        let chosen = base.as_ref().map(|checkpoint| checkpoint.number);
+        let begun = if start.window.cutoff == u64::MAX {
+            let end = base.as_ref().map_or(0, |checkpoint| checkpoint.end);
+            let last = self.last_below_end(&site)?.max(end);
+            Some(NewLog::above(&site, last, start.window.begin)?)
+        } else {
+            None
         };
-        let cutoff = start.window.cutoff;
+        let cutoff = begun.as_ref().map_or(start.window.cutoff, |log| log.mark);
         let mut out = BufWriter::with_capacity(self.rt.alloc(), PRINTED_AT_ONCE, out)?;
         if !how.is_dry {
             // The disk must have what was read: the server may have ended before it synced.
@@ -51,6 +61,9 @@ impl<'a, R: Host> Run<'a, R> {
             }
             site.sync()?;
             delete_parts(&site, &mut parts, chosen)?;
+            if let (Some(log), Some(model)) = (&begun, self.names.logs.first()) {
+                log.write(&site, model.as_str())?;
+            }
         }
         for (number, part) in parts.iter().enumerate() {
             let goes = part.state.goes(chosen);
@@ -62,17 +75,19 @@ impl<'a, R: Host> Run<'a, R> {
             ];
             write_row(&row, how.is_json, &mut out)?;
         }
+        let mut last = cutoff;
         for (log, name) in self.names.logs.iter().enumerate() {
-            replace_log(&site, log, name.as_str(), cutoff, how, &mut out)?;
+            if replace_log(&site, log, name.as_str(), cutoff, how, &mut out)? {
+                last = u64::MAX;
+            }
+        }
+        if let Some(log) = &begun {
+            write_row(&log.row(self.names.logs.len()), how.is_json, &mut out)?;
         }
         if !how.is_dry {
             site.sync()?;
         }
-        write_row(
-            &[("cutoff", Cell::Number(Some(cutoff)))],
-            how.is_json,
-            &mut out,
-        )?;
+        write_row(&end_row(cutoff, last, version), how.is_json, &mut out)?;
         out.flush()?;
         self.folder.tell_losses(losses, err);
         Ok(None)
@@ -127,7 +142,7 @@ fn spoil<R: Host>(
     Ok(())
 }
 
-/// Replaces a log, if it is not resumed yet, and prints its line.
+/// Replaces a log, if it is not resumed yet, prints its line, and returns whether it was ended.
 fn replace_log<R: Host, O: Write>(
     site: &Site<'_, R>,
     log: usize,
@@ -135,7 +150,7 @@ fn replace_log<R: Host, O: Write>(
     cutoff: u64,
     how: Resume,
     out: &mut O,
-) -> Result<(), Halt<'static>> {
+) -> Result<bool, Halt<'static>> {
     let bytes = site.read(name)?;
     let new = match resume_log(site.rt.alloc(), &bytes, cutoff) {
         Ok(new) => new,
@@ -144,21 +159,18 @@ fn replace_log<R: Host, O: Write>(
     if new.changed && !how.is_dry {
         site.replace(name, &new.header, new.records, &new.marks)?;
     }
+    // An ended log has a second mark.
+    let ended = match record_at(site.rt.alloc(), Format::Two, 0, &new.marks)? {
+        Some((_, rest)) => !rest.is_empty(),
+        None => false,
+    };
     let after = new
         .header
         .len()
         .saturating_add(new.records.len())
         .saturating_add(new.marks.len());
-    let row = [
-        ("log", Cell::Number(Some(log as u64))),
-        ("file", Cell::Name(name)),
-        (
-            "state",
-            Cell::Word(if new.changed { "replaced" } else { "kept" }),
-        ),
-        ("dropped", Cell::Number(Some(new.dropped))),
-        ("bytes", Cell::Number(Some(bytes.len() as u64))),
-        ("after", Cell::Number(Some(after as u64))),
-    ];
-    Ok(write_row(&row, how.is_json, out)?)
+    let state = if new.changed { "replaced" } else { "kept" };
+    let sizes = [new.dropped, bytes.len() as u64, after as u64];
+    write_row(&log_row(log, name, state, sizes, ended), how.is_json, out)?;
+    Ok(ended)
 }

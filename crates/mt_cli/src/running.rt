@@ -1,11 +1,12 @@
 //! The steps of the program, from its arguments to its exit status.
 ghost use Rattle.std.specs.Prelude.{◌≤◌};
 
-use crate::failure::tell;
+use crate::explaining::tell;
 use crate::filing::answer_file;
 use crate::grammar::{GREATEST_WIDTH, LEAST_WIDTH};
-use crate::host::{self, Host};
-use crate::listing::names;
+use crate::halt::Halt;
+use crate::host::{self, Host, lock_folder};
+use crate::listing::{Names, list};
 use crate::request::{Command, FolderCommand};
 use crate::words::command;
 use mt_recover::{Failure, Refusal};
@@ -13,7 +14,7 @@ use std::env::{self, Env};
 use std::io::{self, IsTerminal, Read, Write};
 
 /// Does what the arguments of the process ask and returns the exit status. Only `shell` reads the input.
-pub fn run<R: Host, I: Read + IsTerminal, O: Write, E: Write + IsTerminal + Send>(
+pub fn run<R: Host, I: Read + IsTerminal, O: Write + IsTerminal, E: Write + IsTerminal + Send>(
     rt: &R,
     input: &mut I,
     out: &mut O,
@@ -23,6 +24,7 @@ pub fn run<R: Host, I: Read + IsTerminal, O: Write, E: Write + IsTerminal + Send
 {
     let around = Surroundings {
         at_terminal: err.is_terminal(),
+        prints_at_terminal: out.is_terminal(),
         columns: columns_of(rt),
     };
     match words_of_process(rt) {
@@ -36,6 +38,8 @@ pub fn run<R: Host, I: Read + IsTerminal, O: Write, E: Write + IsTerminal + Send
 pub struct Surroundings {
     /// Whether standard error is a terminal.
     pub at_terminal: bool,
+    /// Whether standard output is one.
+    pub prints_at_terminal: bool,
     /// The number of characters of a line, if the environment says it.
     pub columns: Option<u64>,
 }
@@ -66,7 +70,7 @@ pub fn run_words<R: Host, I: Read + IsTerminal, O: Write, E: Write + Send>(
 ) -> u8
     ensures status { result ≤ 4 }
 {
-    let mut asked = match command(rt, words, out, err) {
+    let mut asked = match command(rt, words, around.at_terminal, out, err) {
         Ok(asked) => asked,
         Err(status) => return status,
     };
@@ -76,11 +80,24 @@ pub fn run_words<R: Host, I: Read + IsTerminal, O: Write, E: Write + Send>(
     asked.fit(around.columns);
     let (folder, task) = match &asked {
         Command::OnFolder(folder, task) => (folder, task),
-        Command::OnFile(file) => return answer_file(rt, file, out, err),
+        Command::OnFile(file) => {
+            return answer_file(rt, file, around.prints_at_terminal, out, err);
+        }
     };
-    let names = match names(rt, folder.path, folder.is_verbose, err) {
+    let none = Names::new(rt.alloc());
+    let start = host::Run {
+        rt,
+        folder,
+        names: &none,
+    };
+    // The lock ends with the program.
+    let _lock = match lock_folder(rt, folder.path, task.lock()) {
+        Ok(lock) => lock,
+        Err(halt) => return start.end(Err(halt), err),
+    };
+    let names = match list(rt, folder.path) {
         Ok(names) => names,
-        Err(status) => return status,
+        Err(refusal) => return start.end(Err(Halt::from(refusal)), err),
     };
     let run = host::Run {
         rt,

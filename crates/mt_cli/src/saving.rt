@@ -22,16 +22,22 @@ pub struct Site<'a, R> {
 }
 
 impl<'a, R: Host> Site<'a, R> {
-    /// Refuses a file of this name that is not a regular one, such as a link.
-    pub fn expect_file(&self, name: &str) -> Result<(), Halt<'static>> {
+    /// Refuses what has this name if that is no regular file, or is to be written newly.
+    pub fn expect(&self, name: &str, is_new: bool) -> Result<(), Halt<'static>> {
         let path = self.path(name)?;
         let error = match fs::symlink_metadata(self.rt, &path) {
-            Ok(metadata) if metadata.is_file() => return Ok(()),
-            Ok(_) => io::Error::new(ErrorKind::Unsupported, "it is no regular file"),
+            Err(error) if is_new && error.kind() == ErrorKind::NotFound => return Ok(()),
             Err(error) => error,
+            Ok(_) if is_new => io::Error::from(ErrorKind::AlreadyExists),
+            Ok(metadata) if metadata.is_file() => return Ok(()),
+            Ok(_) => no_file(),
         };
-        let advice = "put a file in place of it";
-        Err(Halt::stuck(self.rt.alloc(), "replace", name, error, advice))
+        let (doing, advice) = if is_new {
+            ("write", "give that file another name")
+        } else {
+            ("replace", "put a file in place of it")
+        };
+        Err(Halt::stuck(self.rt.alloc(), doing, name, error, advice))
     }
 
     /// Reads the file of this name.
@@ -63,7 +69,7 @@ impl<'a, R: Host> Site<'a, R> {
         self.tell(
             "replace",
             name,
-            self.replace_file(&path, header, records, marks),
+            self.put(&path, &path, header, records, marks),
         )
     }
 
@@ -79,10 +85,10 @@ impl<'a, R: Host> Site<'a, R> {
         self.tell("delete", name, fs::remove_file(self.rt, &path))
     }
 
-    /// Writes a new file of this name, in one step.
-    pub fn write(&self, name: &str, bytes: &[u8]) -> Result<(), Halt<'static>> {
-        let path = self.path(name)?;
-        self.tell("write", name, self.write_file(&path, bytes))
+    /// Writes a file of this name, in one step, with the owner, the group and the mode of the file `model`, if that is there.
+    pub fn write(&self, name: &str, model: &str, bytes: &[u8]) -> Result<(), Halt<'static>> {
+        let (path, model) = (self.path(name)?, self.path(model)?);
+        self.tell("write", name, self.put(&path, &model, bytes, &[], &[]))
     }
 
     /// Passes on what became of a step. An error says what could not be done.
@@ -103,52 +109,63 @@ impl<'a, R: Host> Site<'a, R> {
         Path::new(self.folder).join(self.rt.alloc(), name)
     }
 
-    fn replace_file(
-        &self,
-        path: &PathBuf,
-        header: &[u8],
-        records: &[u8],
-        marks: &[u8],
-    ) -> io::Result<()> {
-        let old = fs::metadata(self.rt, path)?;
-        let unfinished = path.with_added_extension(self.rt.alloc(), UNFINISHED)?;
-        let mut file = self.create_private(&unfinished)?;
-        chown(self.rt, &unfinished, Some(old.uid()), Some(old.gid()))?;
-        file.set_permissions(old.permissions())?;
-        file.write_all(header)?;
-        file.write_all(records)?;
-        file.write_all(marks)?;
-        file.sync_all()?;
-        fs::rename(self.rt, &unfinished, path)
-    }
-
+    /// Leaves of the part of this path its header alone.
     fn spoil_file(&self, path: &PathBuf) -> io::Result<()> {
         let mut header = Vec::new(self.rt.alloc());
         File::open(self.rt, path)?
             .take(PART_HEADER_BYTES as u64)
             .read_to_end(&mut header)?;
-        self.replace_file(path, &header, &[], &[])
+        self.put(path, path, &header, &[], &[])
     }
 
-    fn write_file(&self, path: &PathBuf, bytes: &[u8]) -> io::Result<()> {
+    /// Puts a file of these bytes, one after the other, into this path.
+    fn put(
+        &self,
+        path: &PathBuf,
+        model: &PathBuf,
+        header: &[u8],
+        records: &[u8],
+        marks: &[u8],
+    ) -> io::Result<()> {
+        let mut file = self.begin(path, model)?;
+        file.write_all(header)?;
+        file.write_all(records)?;
+        file.write_all(marks)?;
+        self.finish(file, path)
+    }
+
+    /// Begins the file of this path under its unfinished name, in place of one that a crash may have left. It gets the owner,
+    /// the group and the mode of the model, if that is there.
+    pub fn begin(&self, path: &PathBuf, model: &PathBuf) -> io::Result<R::File> {
         let unfinished = path.with_added_extension(self.rt.alloc(), UNFINISHED)?;
-        let mut file = File::create_new(self.rt, &unfinished)?;
-        file.write_all(bytes)?;
-        file.sync_all()?;
-        fs::rename(self.rt, &unfinished, path)
-    }
-
-    /// Creates a file that only its owner may read, in place of one that a crash may have left.
-    fn create_private(&self, path: &PathBuf) -> io::Result<R::File> {
-        match fs::remove_file(self.rt, path) {
+        match fs::remove_file(self.rt, &unfinished) {
             Err(error) if error.kind() != ErrorKind::NotFound => return Err(error),
             _ => {}
         }
-        OpenOptions::new()
+        let old = match fs::symlink_metadata(self.rt, model) {
+            Ok(old) if old.is_file() => old,
+            Ok(_) => return Err(no_file()),
+            Err(error) if error.kind() == ErrorKind::NotFound => {
+                return File::create_new(self.rt, &unfinished);
+            }
+            Err(error) => return Err(error),
+        };
+        // Until it has the owner, no one else may read it.
+        let file = OpenOptions::new()
             .write(true)
             .create_new(true)
             .mode(0o600)
-            .open(self.rt, path)
+            .open(self.rt, &unfinished)?;
+        chown(self.rt, &unfinished, Some(old.uid()), Some(old.gid()))?;
+        file.set_permissions(old.permissions())?;
+        Ok(file)
+    }
+
+    /// Syncs a file that was begun, and gives it its name.
+    pub fn finish(&self, file: R::File, path: &PathBuf) -> io::Result<()> {
+        let unfinished = path.with_added_extension(self.rt.alloc(), UNFINISHED)?;
+        file.sync_all()?;
+        fs::rename(self.rt, &unfinished, path)
     }
 }
 
@@ -163,6 +180,23 @@ pub fn make_folder<R: Host>(rt: &R, path: &str) -> Result<(), Halt<'static>> {
         Ok(()) => Ok(()),
         Err(error) => Err(Halt::stuck(rt.alloc(), "make", path, error, advice)),
     }
+}
+
+/// Writes a file of this path, in one step, and syncs the folder that it is in. It keeps its owner, its group and its mode.
+pub fn write_path<R: Host>(rt: &R, path: &str, bytes: &[u8]) -> Result<(), Halt<'static>> {
+    let site = Site {
+        rt,
+        folder: parent_of(path),
+        advice: "name a file, in a folder that can be written",
+    };
+    let target = Path::new("").join(rt.alloc(), path)?;
+    site.tell("write", path, site.put(&target, &target, bytes, &[], &[]))?;
+    site.sync()
+}
+
+/// Returns that something else than a file is there.
+fn no_file() -> io::Error {
+    io::Error::new(ErrorKind::Unsupported, "it is no regular file")
 }
 
 /// Syncs the file or the folder of this path.

@@ -3,13 +3,12 @@ ghost use Rattle.std.specs.Prelude.{◌≡◌, ◌≤◌, IfOk};
 
 use crate::answering::{PRINTED_AT_ONCE, print_answer};
 use crate::caveat::{Caveat, Losses};
-use crate::failure::tell;
-use crate::file_names::Names;
+use crate::explaining::tell;
 use crate::grammar::PROMPT;
 use crate::halt::Halt;
 use crate::host::{Host, Run};
-use crate::line::{LONGEST_LINE, Line, next_line, words_of};
-use crate::question::question;
+use crate::listing::Names;
+use crate::question::{LONGEST_LINE, Line, next_line, question, words_of};
 use crate::request::{Question, Shell};
 use mt_recover::{Failure, Recovered, Refusal};
 use mt_words::Fault;
@@ -80,6 +79,7 @@ impl<'a, 'r, R: Host> Session<'a, 'r, R> {
             }
             let line = match next_line(&mut lines, &mut text) {
                 Ok(Line::End) => break,
+                Ok(_) if text.as_slice() == b"quit".as_slice() => break,
                 Ok(line) => line,
                 Err(error) => return Err(self.unread(error)),
             };
@@ -108,8 +108,7 @@ impl<'a, 'r, R: Host> Session<'a, 'r, R> {
         )
     }
 
-    /// Answers a line, ends the answer with the line of its status, if that is wanted, and returns the status. A blank line
-    /// asks nothing: its status is 0.
+    /// Answers a line, ends the answer with the line of its status, if that is wanted, and returns it. A blank line has 0.
     fn answer_line<O: Write, E: Write + Send>(
         &self,
         line: Line,

@@ -3,7 +3,7 @@ ghost use Rattle.std.specs.Prelude.{◌≤◌};
 
 use crate::caveat::plural;
 use crate::ending::{Again, Ending, header_bytes};
-use crate::zeros::MANY_ZEROS;
+use crate::hints::MANY_ZEROS;
 use mt_record::{FOOTER_BYTES, LogFront, Rest, footer_of};
 use mt_text::Stopped;
 use mt_words::{Format, Memory, What};
@@ -84,8 +84,7 @@ impl Stop {
         })
     }
 
-    /// Returns that records of this format, from the byte `start` on, stop at this byte. None: no byte follows. Err: out of
-    /// memory.
+    /// Returns that records of this format, from the byte `start` on, stop at this byte. None: no byte follows.
     pub fn at(
         alloc: Global,
         format: Format,

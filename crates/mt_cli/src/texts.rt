@@ -3,7 +3,7 @@ ghost use Rattle.std.specs.Prelude.{◌≤◌};
 
 use crate::answering::PRINTED_AT_ONCE;
 use crate::completions::write_completions;
-use crate::failure::tell;
+use crate::explaining::tell;
 use crate::grammar::{STATUSES, grammar};
 use crate::manual::write_manual;
 use mt_recover::Refusal;

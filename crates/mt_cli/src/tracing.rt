@@ -36,10 +36,9 @@ impl<'a, R: Host> Run<'a, R> {
         let fronts: Vec<LogFront> = scans.iter().map(|scan| scan.front).collect(alloc)?;
         let start = start_of(alloc, &fronts, parts)?;
         let chosen = &start.choice.chosen;
-        let checkpoint = match chosen {
-            Some(checkpoint) => Some(u64::from(checkpoint.number)),
-            None => None,
-        };
+        let checkpoint = chosen
+            .as_ref()
+            .map(|checkpoint| u64::from(checkpoint.number));
         let history = history_of(alloc, how.key.as_bytes(), start.window, &scans, chosen)?;
         let mut out = BufWriter::with_capacity(alloc, PRINTED_AT_ONCE, out)?;
         for (update, fate) in history.updates.iter().zip(&history.fates) {

@@ -48,8 +48,7 @@ impl<'a, R: Host> Run<'a, R> {
         Ok(())
     }
 
-    /// Returns what recovery would find if these damaged logs were cut. Err: the fault that it would name; or a file cannot
-    /// be read again.
+    /// Returns what recovery would find if these damaged logs were cut, or the fault that it would name.
     fn look_ahead(&self, damaged: &[usize], is_skipping: bool) -> Result<Outlook, Refusal<'a>> {
         let cuts = self.cut_all(damaged, is_skipping)?;
         let mut rack = self.rack()?;

@@ -1,14 +1,15 @@
 //! Reads the arguments.
 ghost use Rattle.std.specs.Prelude.{◌≤◌, IfErr};
 
-use crate::failure::{or_tell, tell};
-use crate::file_names::Names;
+use crate::explaining::{or_tell, tell};
 use crate::grammar::{
     AT, BELOW, CHART, COLUMNS, COUNT, DRY_RUN, EXISTS, FOLDER, FROM, HEADER, JSON, KEY, LIMIT, LOG,
-    NUMBER, OUT, PART_LIMIT, PIECES, PREFIX, PROGRESS, RECORD_KEY, SKIP, STATUS, STRICT,
-    STRICT_RESUME, STRICT_SHELL, TEXT, TO, VERBOSE, WIDTH, WORKERS, grammar,
+    NO_LOGS, NUMBER, OUT, OUTPUT, PART_LIMIT, PIECES, PREFIX, PROGRESS, RECORD_KEY, SKIP, STATUS,
+    STRICT, STRICT_RESUME, STRICT_SHELL, TEXT, TO, VERBOSE, WIDTH, WORKERS, grammar,
 };
+use crate::listing::Names;
 use crate::progress::Telling;
+use crate::question::tell_error;
 use crate::request::{
     CheckForm, Command, Cut, FileCommand, FileQuery, Folder, FolderCommand, NewFolder, Question,
     Range, Resume, Shell, StoreQuery, Trace,
@@ -22,13 +23,14 @@ use mt_recover::{Failure, Pieces, Refusal, Workers};
 use mt_text::{Form, Notation, Selection, unescape};
 use mt_words::{Fault, Format, Key};
 use std::alloc::Global;
-use std::io::Write;
+use std::io::{self, Write};
 
 /// Reads the request from the arguments after the name of the program. An Err is the exit status; the text is then
-/// printed: help and the version on `out`, a fault of the arguments on `err`.
+/// printed: help and the version on `out`, a fault of the arguments on `err`, which may be a terminal.
 pub fn command<'a, R: AllocGlobal, O: Write, E: Write>(
     rt: &R,
     words: &'a [String],
+    at_terminal: bool,
     out: &mut O,
     err: &mut E,
 ) -> Result<Command<'a>, u8>
@@ -45,8 +47,8 @@ pub fn command<'a, R: AllocGlobal, O: Write, E: Write>(
         Ok(matches) if matches.subcommand_name() == Some("completions") => {
             Err(tell_text(rt.alloc(), false, out, err))
         }
-        Ok(matches) => read_or_tell(rt.alloc(), &matches, err),
-        Err(error) => Err(tell_error(&error, out, err)),
+        Ok(matches) => read_or_tell(rt.alloc(), &matches, at_terminal, err),
+        Err(error) => Err(tell_error(rt.alloc(), &error, false, None, out, err)),
     }
 }
 
@@ -54,13 +56,14 @@ pub fn command<'a, R: AllocGlobal, O: Write, E: Write>(
 fn read_or_tell<'a, E: Write>(
     alloc: Global,
     matches: &ArgMatches<'a>,
+    at_terminal: bool,
     err: &mut E,
 ) -> Result<Command<'a>, u8>
     ensures { IfErr result (λ status. status ≤ 3) }
 {
     let no_names = Names::new(alloc);
     let is_verbose = match matches.subcommand() {
-        Some((_, matches)) => matches.get_flag(VERBOSE.name),
+        Some((_, matches)) => at_terminal || matches.get_flag(VERBOSE.name),
         None => false,
     };
     or_tell(read(alloc, matches), is_verbose.then_some(&no_names), err)
@@ -90,30 +93,12 @@ fn has_bad_header(matches: &ArgMatches<'_>) -> bool {
     }
 }
 
-/// Prints what the parser reports and returns the exit status.
-fn tell_error<O: Write, E: Write>(error: &clap::Error, out: &mut O, err: &mut E) -> u8
-    ensures { result ≤ 3 }
-{
-    if error.kind() == ErrorKind::OutOfMemory {
-        return tell(&Refusal::from(Fault::Memory), None, err);
-    }
-    if error.use_stderr() {
-        // A write error does not change the status.
-        let _ = write!(err, "{error}");
-        return 2;
-    }
-    if write!(out, "{error}").is_err() || out.flush().is_err() {
-        return tell(&Refusal::from(Failure::Output), None, err);
-    }
-    0
-}
-
 /// Reads the request from the parsed arguments.
 fn read<'a>(alloc: Global, matches: &ArgMatches<'a>) -> Result<Command<'a>, Refusal<'static>> {
     let (name, matches) = matches.subcommand().ok_or(Failure::Words)?;
     let query = match name {
         "records" => FileQuery::Records(selection(alloc, matches)?, matches.get_one(AT.name)),
-        "cut" => FileQuery::Cut(cut(matches)),
+        "cut" => FileQuery::Cut(cut(matches), matches.get_str(OUTPUT.name)),
         _ => return of_folder(alloc, name, matches),
     };
     Ok(Command::OnFile(FileCommand {
@@ -133,7 +118,6 @@ fn of_folder<'a>(
         path: found(matches.get_str(FOLDER.name))?,
         workers: found(matches.get_one(WORKERS.name).and_then(Workers::new))?,
         is_verbose: matches.get_flag(VERBOSE.name),
-        tells_losses: matches.get_flag(VERBOSE.name),
         telling: if matches.get_flag(PROGRESS.name) {
             Telling::Lines
         } else {
@@ -147,6 +131,7 @@ fn of_folder<'a>(
             is_dry: matches.get_flag(DRY_RUN.name),
             is_strict: matches.get_flag(STRICT_RESUME.name),
             is_json: matches.get_flag(JSON.name),
+            has_no_logs: matches.get_flag(NO_LOGS.name),
         }),
         "checkpoint" => {
             let limit: u64 = found(matches.get_one(PART_LIMIT.name))?;
@@ -315,13 +300,22 @@ fn key(
 /// Decodes a key: text with escapes, or hexadecimal.
 fn key_of(alloc: Global, word: &str, is_text: bool) -> Result<Key, Refusal<'static>> {
     let bytes = if is_text {
-        unescape(alloc, word)?
+        unescape(alloc, word)?.ok_or(bad_key("it has a wrong escape"))?
     } else {
         match hex::decode(alloc, word) {
-            Ok(bytes) => Some(bytes),
+            Ok(bytes) => bytes,
             Err(FromHexError::OutOfMemory) => return Err(Refusal::from(Fault::Memory)),
-            Err(_) => None,
+            Err(FromHexError::OddLength) => return Err(bad_key("its digits are odd in number")),
+            Err(_) => return Err(bad_key("it is not only hexadecimal digits")),
         }
     };
-    bytes.and_then(Key::new).ok_or(Refusal::from(Failure::Key))
+    Key::new(bytes).ok_or(bad_key("it is too long"))
+}
+
+/// Returns that a word is no key, and why.
+fn bad_key(reason: &'static str) -> Refusal<'static> {
+    Refusal::of(
+        Failure::Key,
+        io::Error::new(io::ErrorKind::InvalidInput, reason),
+    )
 }
