@@ -3,9 +3,9 @@
  * each function promises is proved, given the duties below.
  *
  * Each function but mtr_free and mtr_version answers a status: DONE, MEMORY, SHORT if it has `room`, or one that its
- * comment names. WRONG comes exactly for the reasons named there, and then nothing changed. None of them ends the
- * program, prints, waits, starts a thread, or keeps state. Any thread may call any of them. Memory comes from
- * rattle_alloc, rattle_realloc and rattle_dealloc (malloc.c).
+ * comment names. One that is given a place answers WRONG exactly for the reasons named there, and then nothing changed.
+ * None of them ends the program, prints, waits, starts a thread, or keeps state. Any thread may call any of them. Memory
+ * comes from rattle_alloc, rattle_realloc and rattle_dealloc (malloc.c).
  *
  * A function with `out`, `room` and `count` writes bytes to the beginning of `out`, which has room for `room` bytes.
  * DONE: these bytes stand there, the rest of `out` is as before, and *count is their number. SHORT: *count is that
