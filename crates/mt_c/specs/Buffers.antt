@@ -1,6 +1,6 @@
 -- What is written to a buffer of the caller.
-use Rattle.std.specs.Prelude.{◌≡◌, ◌≢◌, ◌⊎◌, ℕ, ◌<◌, ◌≤◌, List, ◌++◌, length, drop}
-use Rattle.mt_c.specs.declared.status.TheConstants.{DONE, MEMORY, SHORT}
+use Rattle.std.specs.Prelude.{◌≡◌, ◌≢◌, ℕ, ◌<◌, ◌≤◌, List, ◌++◌, length, drop}
+use Rattle.mt_c.specs.declared.status.TheConstants.{DONE, SHORT}
 
 -- the bytes stand at the beginning of the buffer, the rest of it is as before, and `count` is their number
 pub record IsWritten (bytes before after : List ℕ) (count : ℕ) : Type 0 where
@@ -18,7 +18,3 @@ pub record Writes (bytes before after : List ℕ) (count status : ℕ) : Type 0 
   pub done : status ≡ DONE → IsWritten bytes before after count
   pub short : status ≡ SHORT → IsShort bytes before count
   pub kept : status ≢ DONE → after ≡ before
-
--- how a function ends that has bytes to write: done, with too short a buffer, or out of memory
-abbrev pub HasWritten : ℕ → Type 0
-HasWritten status = (status ≡ DONE) ⊎ ((status ≡ SHORT) ⊎ (status ≡ MEMORY))

@@ -1,10 +1,11 @@
 //! Headers of logs.
-ghost use Rattle.std.specs.Prelude.{◌≡◌, ◌≢◌, IfSome, IfNone};
+ghost use Rattle.std.specs.Prelude.{◌≡◌, ◌≢◌, ◌∷◌, [], IsSome, IfSome};
 ghost use Rattle.mt_record.specs.Heads.{head_bytes};
 ghost use Rattle.mt_record.specs.Encoding.{head_of, segment_head};
-ghost use Rattle.mt_c.specs.declared.status.TheConstants.{DONE, WRONG, SHORT};
-ghost use Rattle.mt_c.specs.Buffers.{Writes, HasWritten};
+ghost use Rattle.mt_c.specs.declared.status.TheConstants.{DONE, MEMORY, WRONG, SHORT};
+ghost use Rattle.mt_c.specs.Buffers.{Writes};
 ghost use Rattle.mt_c.specs.Formats.{format_of};
+ghost use Rattle.mt_c.specs.Statuses.{IsOneOf, IsRefusedUnless};
 
 use crate::buffer::write_bytes;
 use crate::formats::format_of;
@@ -25,8 +26,8 @@ pub extern "C" fn mtr_log_header(
 ) -> u32
     ensures written { IfSome (format_of format) (λ kind. Writes (head_bytes (head_of kind from)) out.old out.new count.new result) }
     ensures kept { result ≢ DONE → out.new ≡ out.old }
-    ensures certain { IfSome (format_of format) (λ _. HasWritten result) }
-    ensures refused { IfNone (format_of format) (result ≡ WRONG) }
+    ensures certain { IsOneOf (DONE ∷ MEMORY ∷ WRONG ∷ SHORT ∷ []) result }
+    ensures refused { IsRefusedUnless (IsSome (format_of format)) result }
     ensures untold { result ≢ DONE → result ≢ SHORT → count.new ≡ count.old }
 {
     let Some(format) = format_of(format) else {
@@ -51,7 +52,7 @@ pub extern "C" fn mtr_segment_header(
     count: &mut usize,
 ) -> u32
     ensures written { Writes (head_bytes (segment_head from worker segment)) out.old out.new count.new result }
-    ensures certain { HasWritten result }
+    ensures certain { IsOneOf (DONE ∷ MEMORY ∷ SHORT ∷ []) result }
 {
     let segment = Segment {
         worker,
@@ -68,7 +69,7 @@ pub extern "C" fn mtr_segment_header(
 /// Writes the header to the beginning of `out`, and its length to `count`.
 fn write_header(alloc: Global, head: Head, out: &mut [u8], count: &mut usize) -> u32
     ensures written { Writes (head_bytes head) out.old out.new count.new result }
-    ensures certain { HasWritten result }
+    ensures certain { IsOneOf (DONE ∷ MEMORY ∷ SHORT ∷ []) result }
     ensures untold { result ≢ DONE → result ≢ SHORT → count.new ≡ count.old }
 {
     match encode_head(alloc, head) {

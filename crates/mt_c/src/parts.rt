@@ -1,11 +1,12 @@
 //! Parts of checkpoints: headers, entries and footers.
-ghost use Rattle.std.specs.Prelude.{◌≡◌, ◌≢◌, map, IfSome, IfNone};
+ghost use Rattle.std.specs.Prelude.{◌≡◌, ◌≢◌, ◌∷◌, [], map, IsSome, IfSome};
 ghost use Rattle.mt_words.specs.Built.{entry_of};
 ghost use Rattle.mt_record.specs.Parts.{part_head, part_head_bytes, entry_spelling, footer_bytes};
-ghost use Rattle.mt_c.specs.declared.status.TheConstants.{DONE, WRONG, SHORT};
+ghost use Rattle.mt_c.specs.declared.status.TheConstants.{DONE, MEMORY, WRONG, SHORT};
 ghost use Rattle.mt_c.specs.Given.{column_of};
-ghost use Rattle.mt_c.specs.Buffers.{Writes, HasWritten};
+ghost use Rattle.mt_c.specs.Buffers.{Writes};
 ghost use Rattle.mt_c.specs.Formats.{format_of, FitsPart};
+ghost use Rattle.mt_c.specs.Statuses.{IsOneOf, IsRefusedUnless};
 
 use crate::buffer::write_bytes;
 use crate::changes::{GivenChange, GivenKind};
@@ -31,8 +32,8 @@ pub extern "C" fn mtr_part_header(
 ) -> u32
     ensures written { IfSome (format_of format) (λ kind. Writes (part_head_bytes (part_head kind number begin part parts)) out.old out.new count.new result) }
     ensures kept { result ≢ DONE → out.new ≡ out.old }
-    ensures certain { IfSome (format_of format) (λ _. HasWritten result) }
-    ensures refused { IfNone (format_of format) (result ≡ WRONG) }
+    ensures certain { IsOneOf (DONE ∷ MEMORY ∷ WRONG ∷ SHORT ∷ []) result }
+    ensures refused { IsRefusedUnless (IsSome (format_of format)) result }
     ensures untold { result ≢ DONE → result ≢ SHORT → count.new ≡ count.old }
 {
     let Some(format) = format_of(format) else {
@@ -65,8 +66,8 @@ pub extern "C" fn mtr_entry(
     count: &mut usize,
 ) -> u32
     ensures written { Writes (entry_spelling (entry_of version key.now (map column_of columns.now))) out.old out.new count.new result }
-    ensures certain { FitsPart format (entry_of version key.now (map column_of columns.now)) → HasWritten result }
-    ensures refused { (FitsPart format (entry_of version key.now (map column_of columns.now)) → ⊥) → result ≡ WRONG }
+    ensures certain { IsOneOf (DONE ∷ MEMORY ∷ WRONG ∷ SHORT ∷ []) result }
+    ensures refused { IsRefusedUnless (FitsPart format (entry_of version key.now (map column_of columns.now))) result }
     ensures untold { result ≢ DONE → result ≢ SHORT → count.new ≡ count.old }
 {
     let Some(format) = format_of(format) else {
@@ -97,7 +98,7 @@ pub extern "C" fn mtr_part_footer(
     count: &mut usize,
 ) -> u32
     ensures written { Writes (footer_bytes end entries) out.old out.new count.new result }
-    ensures certain { HasWritten result }
+    ensures certain { IsOneOf (DONE ∷ MEMORY ∷ SHORT ∷ []) result }
 {
     let mut bytes = Vec::new(alloc);
     match encode_part_footer(end, entries, &mut bytes) {
@@ -109,7 +110,7 @@ pub extern "C" fn mtr_part_footer(
 /// Writes the entry to the beginning of `out`, and its length to `count`.
 fn write_entry(alloc: Global, entry: &Entry, out: &mut [u8], count: &mut usize) -> u32
     ensures written { Writes (entry_spelling entry.now) out.old out.new count.new result }
-    ensures certain { HasWritten result }
+    ensures certain { IsOneOf (DONE ∷ MEMORY ∷ SHORT ∷ []) result }
     ensures untold { result ≢ DONE → result ≢ SHORT → count.new ≡ count.old }
 {
     let mut bytes = Vec::new(alloc);

@@ -1,12 +1,13 @@
 //! Records of logs.
-ghost use Rattle.std.specs.Prelude.{◌≡◌, ◌≢◌, map};
+ghost use Rattle.std.specs.Prelude.{◌≡◌, ◌≢◌, ◌∷◌, [], map};
 ghost use Rattle.mt_words.specs.Changes.{changed, IsLogged};
 ghost use Rattle.mt_words.specs.Built.{mark_of, put_of, remove_of, erase_of};
 ghost use Rattle.mt_record.specs.Spelling.{spelling};
-ghost use Rattle.mt_c.specs.declared.status.TheConstants.{DONE, WRONG, SHORT};
+ghost use Rattle.mt_c.specs.declared.status.TheConstants.{DONE, MEMORY, WRONG, SHORT};
 ghost use Rattle.mt_c.specs.Given.{column_of, kind_of, change_of};
-ghost use Rattle.mt_c.specs.Buffers.{Writes, HasWritten};
+ghost use Rattle.mt_c.specs.Buffers.{Writes};
 ghost use Rattle.mt_c.specs.Formats.{FitsLog};
+ghost use Rattle.mt_c.specs.Statuses.{IsOneOf, IsRefusedUnless};
 
 use crate::buffer::write_bytes;
 use crate::changes::{GivenChange, GivenKind};
@@ -21,7 +22,7 @@ use std::alloc::Global;
 #[unsafe(no_mangle)]
 pub extern "C" fn mtr_mark(alloc: Global, time: u64, out: &mut [u8], count: &mut usize) -> u32
     ensures written { Writes (spelling (mark_of time)) out.old out.new count.new result }
-    ensures certain { HasWritten result }
+    ensures certain { IsOneOf (DONE ∷ MEMORY ∷ SHORT ∷ []) result }
 {
     write_record(alloc, &Record::mark(time), out, count)
 }
@@ -40,8 +41,8 @@ pub extern "C" fn mtr_put(
     count: &mut usize,
 ) -> u32
     ensures written { Writes (spelling (put_of time version key.now (map column_of columns.now))) out.old out.new count.new result }
-    ensures certain { FitsLog format (put_of time version key.now (map column_of columns.now)) → HasWritten result }
-    ensures refused { (FitsLog format (put_of time version key.now (map column_of columns.now)) → ⊥) → result ≡ WRONG }
+    ensures certain { IsOneOf (DONE ∷ MEMORY ∷ WRONG ∷ SHORT ∷ []) result }
+    ensures refused { IsRefusedUnless (FitsLog format (put_of time version key.now (map column_of columns.now))) result }
     ensures untold { result ≢ DONE → result ≢ SHORT → count.new ≡ count.old }
 {
     let put = GivenChange {
@@ -65,8 +66,8 @@ pub extern "C" fn mtr_remove(
     count: &mut usize,
 ) -> u32
     ensures written { Writes (spelling (remove_of time version key.now)) out.old out.new count.new result }
-    ensures certain { FitsLog format (remove_of time version key.now) → HasWritten result }
-    ensures refused { (FitsLog format (remove_of time version key.now) → ⊥) → result ≡ WRONG }
+    ensures certain { IsOneOf (DONE ∷ MEMORY ∷ WRONG ∷ SHORT ∷ []) result }
+    ensures refused { IsRefusedUnless (FitsLog format (remove_of time version key.now)) result }
     ensures untold { result ≢ DONE → result ≢ SHORT → count.new ≡ count.old }
 {
     let remove = GivenChange {
@@ -91,8 +92,8 @@ pub extern "C" fn mtr_erase(
     count: &mut usize,
 ) -> u32
     ensures written { Writes (spelling (erase_of time version key.now numbers.now)) out.old out.new count.new result }
-    ensures certain { FitsLog format (erase_of time version key.now numbers.now) → HasWritten result }
-    ensures refused { (FitsLog format (erase_of time version key.now numbers.now) → ⊥) → result ≡ WRONG }
+    ensures certain { IsOneOf (DONE ∷ MEMORY ∷ WRONG ∷ SHORT ∷ []) result }
+    ensures refused { IsRefusedUnless (FitsLog format (erase_of time version key.now numbers.now)) result }
     ensures untold { result ≢ DONE → result ≢ SHORT → count.new ≡ count.old }
 {
     let erase = GivenChange {
@@ -115,8 +116,8 @@ fn write_change(
 ) -> u32
     requires { IsLogged (kind_of given.kind) }
     ensures written { Writes (spelling (changed time (change_of given.entry))) out.old out.new count.new result }
-    ensures certain { FitsLog format (changed time (change_of given.entry)) → HasWritten result }
-    ensures refused { (FitsLog format (changed time (change_of given.entry)) → ⊥) → result ≡ WRONG }
+    ensures certain { IsOneOf (DONE ∷ MEMORY ∷ WRONG ∷ SHORT ∷ []) result }
+    ensures refused { IsRefusedUnless (FitsLog format (changed time (change_of given.entry))) result }
     ensures untold { result ≢ DONE → result ≢ SHORT → count.new ≡ count.old }
 {
     let Some(format) = records_of(format) else {
@@ -134,7 +135,7 @@ fn write_change(
 /// Writes the record to the beginning of `out`, and its length to `count`.
 fn write_record(alloc: Global, record: &Record, out: &mut [u8], count: &mut usize) -> u32
     ensures written { Writes (spelling «record».now) out.old out.new count.new result }
-    ensures certain { HasWritten result }
+    ensures certain { IsOneOf (DONE ∷ MEMORY ∷ SHORT ∷ []) result }
     ensures untold { result ≢ DONE → result ≢ SHORT → count.new ≡ count.old }
 {
     let mut bytes = Vec::new(alloc);

@@ -1,13 +1,13 @@
 //! What replaces a log if a server resumes.
-ghost use Rattle.std.specs.Prelude.{◌≡◌, ◌≢◌, ◌⊎◌, ◌↔◌, ◌++◌, List, ℕ, IsTrue, IfOk, IfSome, IfNone};
+ghost use Rattle.std.specs.Prelude.{◌≡◌, ◌≢◌, ◌↔◌, ◌∷◌, ◌++◌, [], List, ℕ, IsTrue, IfOk, IfSome, IfNone};
 ghost use Rattle.mt_words.specs.Built.{mark_of};
 ghost use Rattle.mt_record.specs.declared.read.FeedFault.{FeedFault};
 ghost use Rattle.mt_record.specs.LogFaults.{IsLogFault};
 ghost use Rattle.mt_record.specs.Resuming.{greatest_timestamp};
 ghost use Rattle.mt_record.specs.Spelling.{spelling};
 ghost use Rattle.mt_c.specs.declared.status.TheConstants.{DONE, MEMORY, SHORT, FAULT};
-ghost use Rattle.mt_c.specs.Buffers.{HasWritten};
 ghost use Rattle.mt_c.specs.Resumes.{EndsWith, Resumes};
+ghost use Rattle.mt_c.specs.Statuses.{IsOneOf};
 
 use crate::buffer::write_joined;
 use crate::formats::log_number;
@@ -45,7 +45,7 @@ pub extern "C" fn mtr_resume_log(
     ensures fault { result ≡ FAULT → (fault : FeedFault) × IsLogFault log.now fault }
     ensures untold { result ≢ DONE → result ≢ SHORT → resumed.new ≡ resumed.old }
     ensures kept { result ≢ DONE → out.new ≡ out.old }
-    ensures certain { HasWritten result ⊎ (result ≡ FAULT) }
+    ensures certain { IsOneOf (DONE ∷ MEMORY ∷ SHORT ∷ FAULT ∷ []) result }
 {
     let Some((head, _)) = header_at(log) else {
         return FAULT;
