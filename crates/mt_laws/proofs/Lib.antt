@@ -42,5 +42,6 @@ pub mod Restart
 pub mod Doubled
 pub mod Acknowledging
 pub mod SomeSegments
+pub mod Successors
 pub mod LostNames
 pub mod Timestamps

@@ -149,7 +149,7 @@ both_open = record {
 
     second_gap : HasGap 0 readings (file_reading second) → ⊥
     second_gap gap = elim gap as (λ _. ⊥) [
-      | inl amid ↦ amid.1 (at_first.0, file_reading first, at_first.1, at_first.2, (refl, refl))
+      | inl amid ↦ amid.1 (at_first.0, file_reading first, at_first.1, at_first.2, refl)
       | inr alone ↦ alone.0 (at_first.0, file_reading first, at_first.1, at_first.2, (refl, omega arith))
     ]
 
