@@ -37,9 +37,9 @@ pub fn explain<E: Write>(refusal: &Refusal<'_>, names: &Names, err: &mut E) -> i
 
 impl<'a, R: Host> Run<'a, R> {
     /// Gives a failure of a file that has no reason the one that the file shows now.
-    pub fn with_reason<'b>(&self, refusal: Refusal<'b>) -> Refusal<'b> {
+    pub fn add_reason(&self, refusal: &mut Refusal<'_>) {
         if refusal.reason.is_some() {
-            return refusal;
+            return;
         }
         let unread = match &refusal.failure {
             Failure::Recovery(Fault::Source { .. } | Fault::PartSource { .. }) => {
@@ -48,8 +48,9 @@ impl<'a, R: Host> Run<'a, R> {
             Failure::Open(name) => Some(*name),
             _ => None,
         };
-        let reason = unread.and_then(|name| self.why_unread(name));
-        Refusal { reason, ..refusal }
+        if let Some(name) = unread {
+            refusal.reason = self.why_unread(name);
+        }
     }
 }
 

@@ -90,15 +90,18 @@ impl<'a, R: Host> Run<'a, R> {
     pub fn end<E: Write>(&self, outcome: Result<Option<Caveat>, Halt<'_>>, err: &mut E) -> u8
         ensures { result ≤ 4 }
     {
-        let names = self.folder.is_verbose.then_some(self.names);
-        match outcome {
-            Ok(None) => 0,
-            Ok(Some(caveat)) => caveat.tell(err),
-            Err(Halt::Refused(refusal)) if names.is_some() => {
-                tell(&self.with_reason(refusal), names, err)
-            }
-            Err(halt) => halt.tell(names, err),
+        let mut halt = match outcome {
+            Ok(None) => return 0,
+            Ok(Some(caveat)) => return caveat.tell(err),
+            Err(halt) => halt,
+        };
+        if !self.folder.is_verbose {
+            return halt.tell(None, err);
         }
+        if let Halt::Refused(refusal) = &mut halt {
+            self.add_reason(refusal);
+        }
+        halt.tell(Some(self.names), err)
     }
 }
 
