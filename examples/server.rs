@@ -10,13 +10,16 @@
 //!     ack KEY VERSION VALUE    the update is durable, so its client may be told
 //!
 //! A value is the number of the worker that wrote it, and the timestamp. The server makes no checkpoint and deletes no log,
-//! so each start reads all that was ever written.
+//! so each start reads all that was ever written. It does not start beside another server, nor over logs or parts that are
+//! not its own.
 use mtrecover::records::{self, Column, Format};
 use std::collections::HashMap;
 use std::error::Error;
-use std::fs::{self, File};
+use std::fs::{self, File, Permissions};
 use std::hash::{BuildHasher, RandomState};
 use std::io::{self, ErrorKind, Read, Write};
+use std::os::fd::AsRawFd;
+use std::path::Path;
 use std::sync::Mutex;
 use std::time::Duration;
 use std::{env, process, thread};
@@ -28,7 +31,20 @@ const KEYS: u64 = 100;
 const ROUND: u64 = 4;
 const WAITING: usize = 64;
 
+/// What `flock` does: it locks for this process alone, or fails at once.
+const ALONE_AT_ONCE: i32 = 2 | 4;
+
+extern "C" {
+    fn flock(file: i32, what: i32) -> i32;
+}
+
 type Outcome<T> = Result<T, Box<dyn Error>>;
+
+/// A log that the last server left.
+struct Old {
+    bytes: Vec<u8>,
+    permissions: Permissions,
+}
 
 struct Update {
     time: u64, // also its version
@@ -66,14 +82,27 @@ fn name_of(worker: usize) -> String {
     format!("{worker}.mtl")
 }
 
-fn sync_folder() -> io::Result<()> {
-    File::open(".")?.sync_all()
-}
-
 // ---- Recovery ----
 
+/// Locks the folder while it is open, and refuses logs and parts of others: this server would neither recover nor resume them.
+fn take_folder() -> Outcome<File> {
+    let folder = File::open(".")?;
+    // SAFETY: the call gets two numbers.
+    if unsafe { flock(folder.as_raw_fd(), ALONE_AT_ONCE) } != 0 {
+        return Err("the folder is locked".into());
+    }
+    for file in fs::read_dir(".")? {
+        let name = file?.file_name();
+        let counts = Path::new(&name).extension().is_some_and(|end| end == "mtl" || end == "mtc");
+        if counts && (0..WORKERS).all(|worker| name != name_of(worker).as_str()) {
+            return Err(format!("{} is of another server", name.to_string_lossy()).into());
+        }
+    }
+    Ok(folder)
+}
+
 /// Reads a worker's log, if it is there. It is synced first: no crash of the machine may take back what recovery reads.
-fn read_log(worker: usize) -> io::Result<Option<Vec<u8>>> {
+fn read_log(worker: usize) -> io::Result<Option<Old>> {
     let mut file = match File::open(name_of(worker)) {
         Err(error) if error.kind() == ErrorKind::NotFound => return Ok(None),
         file => file?,
@@ -81,7 +110,7 @@ fn read_log(worker: usize) -> io::Result<Option<Vec<u8>>> {
     file.sync_all()?;
     let mut bytes = Vec::new();
     file.read_to_end(&mut bytes)?;
-    Ok(Some(bytes))
+    Ok(Some(Old { bytes, permissions: file.metadata()?.permissions() }))
 }
 
 /// Fills the table from these logs, and sets the clock. Returns the cutoff too. Without logs there is nothing, and all is 0.
@@ -91,26 +120,36 @@ fn recover(logs: &[&[u8]]) -> Outcome<(u64, Shared)> {
         return Ok((0, shared));
     }
     let store = mtrecover::recover(logs, &[])?;
+    let report = store.report();
+    // A first start that was interrupted leaves fewer logs, in which all timestamps are 0.
+    if logs.len() < WORKERS && report.last > 0 {
+        return Err("a log is missing".into());
+    }
+    if report.last == u64::MAX {
+        return Err("a log is ended".into());
+    }
     for pair in store.range(..) {
         let pair = pair?;
         let (key, value) = (String::from_utf8(pair.key)?, String::from_utf8(pair.columns[0].1.clone())?);
         say(format!("has {key} {value}\n"))?;
         shared.table.insert(key, value);
     }
-    shared.now = store.report().last; // and versions are timestamps
-    Ok((store.report().cutoff, shared))
+    shared.now = report.cutoff.max(report.version); // versions are timestamps
+    Ok((report.cutoff, shared))
 }
 
-/// Begins a worker's log: with what is below the cutoff in the old one, and a mark there. It takes its place whole.
-fn begin_log(worker: usize, old: Option<&[u8]>, cutoff: u64) -> Outcome<File> {
+/// Begins a worker's log: with what is below the cutoff in the old one, and a mark there. It takes its place whole, and keeps
+/// its mode.
+fn begin_log(worker: usize, old: Option<Old>, cutoff: u64) -> Outcome<File> {
     let mut bytes = Vec::new();
+    let mut log = File::create("new")?;
     if let Some(old) = old {
-        records::resume_log(&mut bytes, old, cutoff)?;
+        records::resume_log(&mut bytes, &old.bytes, cutoff)?;
+        log.set_permissions(old.permissions)?;
     } else {
         records::log_header(&mut bytes, Format::One, 0)?;
         records::mark(&mut bytes, cutoff)?;
     }
-    let mut log = File::create("new")?;
     log.write_all(&bytes)?;
     log.sync_all()?;
     fs::rename("new", name_of(worker))?;
@@ -177,16 +216,17 @@ fn serve() -> Outcome<()> {
     let args: Vec<String> = env::args().collect();
     env::set_current_dir(args.get(1).ok_or("DIR is missing")?)?;
     let busy = args.get(2).map_or(Ok(WORKERS), |busy| busy.parse())?;
+    let folder = take_folder()?;
     let old = (0..WORKERS).map(read_log).collect::<io::Result<Vec<_>>>()?;
-    sync_folder()?;
-    let (cutoff, shared) = recover(&old.iter().flatten().map(Vec::as_slice).collect::<Vec<_>>())?;
+    folder.sync_all()?;
+    let (cutoff, shared) = recover(&old.iter().flatten().map(|old| old.bytes.as_slice()).collect::<Vec<_>>())?;
     let shared = &Mutex::new(shared);
     let mut workers = Vec::new();
     for (number, old) in old.into_iter().enumerate() {
-        let log = begin_log(number, old.as_deref(), cutoff)?;
+        let log = begin_log(number, old, cutoff)?;
         workers.push(Worker { number, is_busy: number < busy, log, batch: Vec::new(), waiting: Vec::new(), shared });
     }
-    sync_folder()?;
+    folder.sync_all()?;
     thread::scope(|threads| {
         for mut worker in workers {
             threads.spawn(move || loop {
