@@ -161,9 +161,15 @@ class File:
     def __init__(self, content=b""):
         self.content, self.synced = content, len(content)
 
-    def left(self, rng):
+    def left(self, name, rng):
+        """Returns what a crash leaves: of a log a beginning, of another file any zeros among what is not synced."""
         whole = len(self.content)
-        return self.content[: rng.choice([self.synced, rng.randint(self.synced, whole), whole])]
+        left = self.content[: rng.choice([self.synced, rng.randint(self.synced, whole), whole])]
+        if name.endswith(".mtl"):
+            return left
+        begin = rng.randint(self.synced, len(left))
+        end = min(begin + rng.choice([1, 1, 4096]), len(left))
+        return left[:begin] + bytes(end - begin) + left[end:]
 
 
 class Disk:
@@ -220,7 +226,7 @@ class Disk:
         for names in self.changes:
             if rng.random() < chance:
                 rename_all(self.kept, names)
-        return Disk({name: file.left(rng) for name, file in self.kept.items()})
+        return Disk({name: file.left(name, rng) for name, file in self.kept.items()})
 
 
 def after_calls(disk, calls):
