@@ -101,7 +101,7 @@ def log(y, name, end):
 
 
 def recovery():
-    """The six files of examples/store that count: two logs, and the two parts of checkpoint 7."""
+    """The files of examples/store that count: two logs, and the two parts of checkpoint 7."""
     part, first, second, axis = 68, 138, 218, 268
     window = "log updates survive: begin <= timestamp < cutoff"
     shapes = [
@@ -124,7 +124,7 @@ def recovery():
         *log(second, "worker 1", 42),
         update(23, second, "23 put lime", "above", True, shift=-8),
         update(25, second, "25 put fig", "below", True, shift=4),
-        update(32, second, "32 erase kiwi", "above", True),
+        update(32, second, "32 erase kiwi 0", "above", True),
         update(41, second, "41 put pear, late", "below", False, "start", -8),
         mark(42, second, "42 mark: last 42", "start", -10),
         line(at(42) + 7, second, at(43) + 14, second, QUIET, 2, "2 3"),
