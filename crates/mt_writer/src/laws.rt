@@ -1,0 +1,21 @@
+//! What a writer's journal says of its file, and each call of the file's steps.
+ghost use Rattle.std.specs.Prelude.{ℕ};
+ghost use Rattle.mt_words.specs.Changes.{Logged};
+ghost use Rattle.mt_writer.specs.Files.{OpenFile, IsOpenFile, IsWritten, IsSynced};
+ghost use Rattle.mt_writer.specs.Journals.{Journal, Writer, Keeps, file_of, holding, taking, syncing, IsReached};
+
+/// States that the file of a journal that a writer keeps is an open file, and that appending a record and taking bytes
+/// only append to it, and a sync only syncs more of it. This is a law: it has nothing to run.
+pub fn a_journal_is_an_open_file()
+    ensures opens { (w : Writer) (j : Journal) → Keeps w j → IsOpenFile (file_of j) }
+    ensures written { (j : Journal) (r : Logged) → IsWritten (file_of j) (file_of (holding j r)) }
+    ensures taken { (j : Journal) → IsWritten (file_of j) (file_of (taking j)) }
+    ensures synced { (w : Writer) (j : Journal) → Keeps w j → IsSynced (file_of j) (file_of (syncing j)) }
+{}
+
+/// States that a file that is written or synced further is reached as far as it was, so that an earlier reach may stand
+/// for it. This is a law: it has nothing to run.
+pub fn a_reach_stays_true()
+    ensures written { (reach : ℕ) (before after : OpenFile) → IsWritten before after → IsReached reach before → IsReached reach after }
+    ensures synced { (reach : ℕ) (w : Writer) (j : Journal) → Keeps w j → IsReached reach (file_of j) → IsReached reach (file_of (syncing j)) }
+{}

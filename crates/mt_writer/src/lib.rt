@@ -1,0 +1,35 @@
+//! Writes logs so that nothing acknowledged is lost in a crash (docs/DURABILITY.md).
+//!
+//! A `NewLog` has the bytes of a file that is to be created. A `LogWriter` belongs to one worker and owns no file: it
+//! returns the bytes to be appended, and is told when they are synced. `least_reach` tells what may be acknowledged.
+//!
+//! ```
+//! let new = NewLog::begin(alloc, 0, 1)?;
+//! // Write new.bytes() to a file under another name, sync it, rename it, and sync the folder.
+//! let mut log = new.created();
+//! let time = log.put(now, version, key, columns)?;
+//! log.mark(time + 1)?;
+//! buffer = log.take(buffer);
+//! // Append the buffer to the file, and sync it.
+//! log.synced();
+//! if time < least_reach(&[log.reach(), other.reach()]) {
+//!     // The put may be acknowledged.
+//! }
+//! ```
+//!
+//! Begin with `log_writer.rt`, and with `specs/Journals.antt`, which says what a writer keeps.
+#![tactic(auto)]
+
+mod laws;
+mod log_writer;
+mod new_log;
+mod reaches;
+#[cfg(test)]
+mod tests;
+mod writer_fault;
+
+pub use laws::{a_journal_is_an_open_file, a_reach_stays_true};
+pub use log_writer::{LONGEST_RECORD, LogWriter, MOST_BYTES, Sealed};
+pub use new_log::NewLog;
+pub use reaches::least_reach;
+pub use writer_fault::WriterFault;

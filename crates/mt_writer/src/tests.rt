@@ -1,0 +1,57 @@
+//! Tests of what no contract says: that a log takes records, and is sealed.
+use crate::{LogWriter, NewLog, WriterFault};
+use mt_record::{Rest, read_log};
+use mt_words::{Columns, Key, Memory};
+use std::alloc::Global;
+use std::process::Abort;
+
+/// Returns the key `k`.
+fn key(alloc: Global) -> Result<Key, WriterFault> {
+    let bytes = Vec::from_slice(alloc, b"k").map_err(Memory::from)?;
+    Key::new(bytes).ok_or(WriterFault::Full)
+}
+
+/// Puts one column under `k`, and returns the timestamp.
+fn put(alloc: Global, log: &mut LogWriter, now: u64, version: u64) -> Result<u64, WriterFault> {
+    let mut columns = Columns::new(alloc);
+    let red = Vec::from_slice(alloc, b"red").map_err(Memory::from)?;
+    let _ = columns.push(0, red);
+    log.put(now, version, key(alloc)?, columns)
+}
+
+#[test]
+fn what_is_written_is_read(rt: HostRuntime) {
+    let alloc = rt.alloc();
+    let new = NewLog::begin(alloc, 0, 5).expect(&rt, "memory");
+    let mut file = Vec::new(alloc);
+    file.extend_from_slice(new.bytes()).expect(&rt, "memory");
+    let mut log = new.created();
+    assert_eq!(&rt; put(alloc, &mut log, 7, 7), Ok(7));
+    assert_eq!(&rt; put(alloc, &mut log, 6, 8), Ok(7));
+    assert_eq!(&rt; log.mark(9), Ok(9));
+    let bytes = log.take(Vec::new(alloc));
+    file.extend_from_slice(&bytes).expect(&rt, "memory");
+    let text = read_log(alloc, &file).expect(&rt, "a log");
+    assert_eq!(&rt; text.front.count, 4);
+    assert_eq!(&rt; text.front.latest, 9);
+    assert!(&rt; text.front.rest == Rest::Nothing);
+}
+
+#[test]
+fn a_segment_is_sealed_after_a_sync(rt: HostRuntime) {
+    let alloc = rt.alloc();
+    let new = NewLog::segment(alloc, 0, 3, 0, 5).expect(&rt, "memory");
+    let mut log = new.created();
+    assert_eq!(&rt; log.mark(6), Ok(6));
+    let _ = log.take(Vec::new(alloc));
+    log.synced();
+    assert!(&rt; log.seal().is_ok());
+}
+
+#[test]
+fn an_ended_log_takes_no_mark(rt: HostRuntime) {
+    let new = NewLog::begin(rt.alloc(), 0, 5).expect(&rt, "memory");
+    let mut log = new.created();
+    assert!(&rt; log.end().is_ok());
+    assert_eq!(&rt; log.mark(6), Err(WriterFault::Ended));
+}
