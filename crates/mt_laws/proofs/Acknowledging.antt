@@ -19,23 +19,26 @@ use Rattle.mt_words.proofs.Elements.{no_element, head_or_tail, head_in, tail_in}
 use Rattle.mt_record.specs.declared.feed.head.Head.{Head}
 use Rattle.mt_record.specs.declared.feed.head.Segment.{Segment}
 use Rattle.mt_record.specs.Encoding.{head_of}
-use Rattle.mt_record.specs.Heads.{IsHead, head_bytes}
+use Rattle.mt_record.specs.Heads.{head_bytes}
 use Rattle.mt_record.specs.Logs.{AreRecords, latest, LogReading, IsReading}
 use Rattle.mt_record.specs.Resuming.{greatest_timestamp}
 use Rattle.mt_record.specs.Spelling.{spelling}
-use Rattle.mt_record.proofs.Records.{records_push, tells_torn}
+use Rattle.mt_record.proofs.Records.{records_push}
 use Rattle.mt_scan.specs.Choice.{CheckpointReading}
 use Rattle.mt_scan.specs.Segments.{IsEarlier, IsJustBefore, IsSame, HasFile, IsDoubled, HasGap, IsGap}
 use Rattle.mt_replay.specs.Survivors.{all_updates}
 use Rattle.mt_replay.proofs.Members.{of_map, in_map}
 use Rattle.mt_recover.specs.Recovery.{begin_of}
-use Rattle.mt_laws.specs.Lives.{OpenFile, file_bytes, file_reading, HasSynced, IsOpenFile, IsBehind, AreOpen, IsSyncedAbove, AllSyncedAbove, LogOf, there, deleted, those_there, IsStill, as_written, records_in, history_of, updates_in, Checkpoints, IsNewOver, MayComeNext, IsWritten, IsSynced, running, write, sync, add_file, acknowledge, Life, then}
+use Rattle.mt_writer.specs.Files.{OpenFile, file_bytes, file_reading, HasSynced, IsOpenFile, IsWritten, IsSynced}
+use Rattle.mt_writer.proofs.JournalLemmas.{whole_reading}
+use Rattle.mt_laws.specs.Lives.{IsBehind, AreOpen, IsSyncedAbove, AllSyncedAbove, LogOf, there, deleted, those_there, IsStill, as_written, records_in, history_of, updates_in, Checkpoints, IsNewOver, MayComeNext, running, write, sync, add_file, acknowledge, Life, then}
+use Rattle.mt_laws.specs.Writing.{IsAloneFrom}
 use Rattle.mt_laws.proofs.LeftFiles.{none_at, says_less, earlier_or_not, later_or_last}
 use Rattle.mt_laws.proofs.ResumedLogs.{ClaimsNoMore, once_stays, gaps_stay}
 use Rattle.mt_laws.proofs.Paired.{partner, partner_of, zip_weaker, zip_map, zip_through}
 use Rattle.mt_laws.proofs.KeptLogs.{zip_there, still_weaker, there_append, HasSame, same_history}
 use Rattle.mt_laws.proofs.Living.{all_of_it, above_added, life_holds}
-use Rattle.mt_laws.proofs.SomeLife.{only_one, IsAloneFrom}
+use Rattle.mt_laws.proofs.SomeLife.{only_one}
 use Rattle.mt_laws.proofs.Doubled.{AreApart, apart_of, once_of, none_of}
 
 -- ---- the last file of a log
@@ -101,14 +104,14 @@ last_in (f ∷ fs) file = one_more f fs file (earlier_or_not file.head.segment f
 -- ---- files that stay open
 
 -- The file has the header that it had, and is open. If it is behind another, it is synced whole, and nothing was appended.
-record StaysOpen (files : List OpenFile) (before after : OpenFile) : Type 0 where
-  head : after.head ≡ before.head
-  is_open : IsOpenFile after
-  whole : (other : OpenFile) → Contains files other → IsBehind before other → after.synced ≡ file_bytes after
-  same : (other : OpenFile) → Contains files other → IsBehind before other → after.records ≡ before.records
-  synced : (time : ℕ) → HasSynced (λ r. (is_mark r ≡ true) × (time ≤ r.timestamp)) before → HasSynced (λ r. (is_mark r ≡ true) × (time ≤ r.timestamp)) after
+pub record StaysOpen (files : List OpenFile) (before after : OpenFile) : Type 0 where
+  pub head : after.head ≡ before.head
+  pub is_open : IsOpenFile after
+  pub whole : (other : OpenFile) → Contains files other → IsBehind before other → after.synced ≡ file_bytes after
+  pub same : (other : OpenFile) → Contains files other → IsBehind before other → after.records ≡ before.records
+  pub synced : (time : ℕ) → HasSynced (λ r. (is_mark r ≡ true) × (time ≤ r.timestamp)) before → HasSynced (λ r. (is_mark r ≡ true) × (time ≤ r.timestamp)) after
 
-all_stay_open : (begin : ℕ) (files now : List OpenFile) → AllZip (StaysOpen files) files now → AreOpen begin files → AreOpen begin now
+pub all_stay_open : (begin : ℕ) (files now : List OpenFile) → AllZip (StaysOpen files) files now → AreOpen begin files → AreOpen begin now
 all_stay_open begin files now are opens = record {
   each = λ file at. (of file at).2.is_open;
   once = once_stays (map file_reading files) (map file_reading now) claims opens.once;
@@ -136,19 +139,6 @@ all_stay_open begin files now are opens = record {
 
     claims : AllZip ClaimsNoMore (map file_reading files) (map file_reading now)
     claims = zip_map ClaimsNoMore file_reading file_reading files now (zip_weaker (StaysOpen files) (λ a b. ClaimsNoMore (file_reading a) (file_reading b)) files now claim are)
-
--- the bytes of lawful records are a log
-pub reads : (file : OpenFile) → IsHead file.head → AreRecords (limits_of file.head.format) 0 file.records → IsReading (file_bytes file) (file_reading file)
-reads file is_head lawful = record {
-  tail = [];
-  is_log = record {
-    spelled = ap (λ (l : List ℕ). head_bytes file.head ++ l) (sym (append-nil (flat_map spelling file.records)));
-    is_head = is_head;
-    lawful = lawful;
-    ends = inl refl;
-  };
-  torn = tells_torn (limits_of file.head.format) [] true refl (inl refl);
-}
 
 -- ---- marks
 
@@ -189,7 +179,7 @@ marked time files file fits is most last = record {
   stays = record {
     head = refl;
     is_open = record {
-      is_reading = reads (with_mark time file) is.is_reading.is_log.is_head lawful;
+      is_reading = whole_reading (with_mark time file).head (with_mark time file).records is.is_reading.is_log.is_head lawful;
       synced = record { lost = is.synced.lost ++ flat_map spelling (mark_of (time + 1) ∷ []); begins = begins; header = is.synced.header };
       claim = still (λ r. file.head.from ≤ r.timestamp) is.claim;
     };
@@ -343,7 +333,7 @@ new_file time change = record {
 
 new_reading : (time : ℕ) (change : Change) → time < greatest_timestamp → IsLoggedChange widest change → IsReading (file_bytes (new_file time change)) (file_reading (new_file time change))
 new_reading time change fits lawful =
-    reads (new_file time change) (record { from = omega arith; segment = tt }) ((omega (arith, fits), lawful), omega arith, ((omega (arith, fits), tt), omega arith, tt))
+    whole_reading (new_file time change).head (new_file time change).records (record { from = omega arith; segment = tt }) ((omega (arith, fits), lawful), omega arith, ((omega (arith, fits), tt), omega arith, tt))
 
 -- its mark is synced
 new_synced : (time : ℕ) (change : Change) → time < greatest_timestamp → IsLoggedChange widest change → (P : Logged → Type 0) → P (mark_of (time + 1))
@@ -368,7 +358,7 @@ new_alone begin time change fits lawful = record {
 }
 
 -- nothing is earlier than a file that is no segment, nor the same
-none_earlier : (a : Option Segment) → IsEarlier a None → ⊥
+pub none_earlier : (a : Option Segment) → IsEarlier a None → ⊥
 none_earlier (Some a) is = is
 none_earlier None is = is
 

@@ -15,7 +15,8 @@ use Rattle.mt_record.proofs.Feeds.{apart, behind_on}
 use Rattle.mt_record.proofs.OneLog.{same_head}
 use Rattle.mt_record.proofs.Records.{tells_torn}
 use Rattle.mt_record.proofs.Unique.{same_split}
-use Rattle.mt_laws.specs.Crashes.{IsCutOf, SaysBeginning}
+use Rattle.mt_writer.specs.Files.{IsCutOf}
+use Rattle.mt_laws.specs.Crashes.{SaysBeginning}
 use Rattle.mt_laws.proofs.CutFrames.{cut_end, cut_record}
 
 -- ---- the records

@@ -13,8 +13,9 @@ use Rattle.mt_words.specs.Updates.{update_at, update_by, update_of, updates_from
 use Rattle.mt_words.proofs.Elements.{no_element, head_or_tail, head_in, tail_in}
 use Rattle.mt_record.specs.Logs.{AreRecords}
 use Rattle.mt_replay.specs.Survivors.{all_updates}
+use Rattle.mt_writer.specs.Files.{OpenFile, IsOpenFile}
 use Rattle.mt_laws.specs.Crashes.{has_records, is_update_since, since}
-use Rattle.mt_laws.specs.Lives.{OpenFile, IsOpenFile, LogOf, there, deleted, those_there, IsStill, as_written, records_in, history_of, AreOld, IsStillOrDeleted}
+use Rattle.mt_laws.specs.Lives.{LogOf, there, deleted, those_there, IsStill, as_written, records_in, history_of, AreOld, IsStillOrDeleted}
 use Rattle.mt_laws.proofs.Agreeing.{NeverFall, AgreeBelow}
 use Rattle.mt_laws.proofs.Continued.{of_record}
 

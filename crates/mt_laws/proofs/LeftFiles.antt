@@ -18,8 +18,9 @@ use Rattle.mt_scan.specs.Cutoff.{is_segment_of, files_of, IsLastOf, HasLast, IsC
 use Rattle.mt_scan.specs.Segments.{IsEarlier, IsSame, HasFile, IsDoubled, AreWriters}
 use Rattle.mt_replay.proofs.Members.{of_map, in_map, of_flat_map, in_flat_map, of_filter, in_filter}
 use Rattle.mt_recover.specs.Recovery.{AreReadings}
-use Rattle.mt_laws.specs.Crashes.{IsCutOf, IsBeginningOf}
-use Rattle.mt_laws.specs.Lives.{OpenFile, file_bytes, file_reading, HasSynced, IsOpenFile, IsBehind, AreOpen, IsLeftOf, IsSyncedAbove}
+use Rattle.mt_writer.specs.Files.{IsCutOf, OpenFile, file_bytes, file_reading, HasSynced, IsOpenFile}
+use Rattle.mt_laws.specs.Crashes.{IsBeginningOf}
+use Rattle.mt_laws.specs.Lives.{IsBehind, AreOpen, IsLeftOf, IsSyncedAbove}
 use Rattle.mt_laws.proofs.CutLogs.{cut_log}
 use Rattle.mt_laws.proofs.Lost.{behind_latest}
 use Rattle.mt_laws.proofs.SomeCutoff.{some_last, own_file}

@@ -45,3 +45,6 @@ pub mod SomeSegments
 pub mod Successors
 pub mod LostNames
 pub mod Timestamps
+pub mod WriterSteps
+pub mod ServerCalls
+pub mod SomeCalls

@@ -29,9 +29,10 @@ use Rattle.mt_replay.specs.Walk.{IsWalk}
 use Rattle.mt_replay.proofs.Members.{of_map, of_filter, in_filter}
 use Rattle.mt_recover.specs.Recovery.{AreReadings, AreKnown, Facts, begin_of, entry_updates, survivors, records_of, IsStoreOf}
 use Rattle.mt_recover.proofs.OneVerdict.{same_facts}
-use Rattle.mt_laws.specs.Crashes.{IsCutOf, IsSound}
+use Rattle.mt_writer.specs.Files.{IsCutOf, OpenFile, file_bytes, file_reading, HasSynced, IsOpenFile, IsWritten, IsSynced}
+use Rattle.mt_laws.specs.Crashes.{IsSound}
 use Rattle.mt_laws.specs.Resuming.{IsOnTheWay}
-use Rattle.mt_laws.specs.Lives.{OpenFile, IsAdded, MayStandOn, file_bytes, file_reading, HasSynced, IsOpenFile, AreOpen, IsSyncedAbove, AllSyncedAbove, LogOf, there, deleted, those_there, IsStill, as_written, history_of, updates_in, AreOld, Checkpoints, BeginsRise, IsNewOver, AddNew, AreLeftOf, listed, only, IsWritten, IsSynced, IsLeftOf, IsResumedAs, AreDeleted, State, running, down, IsStep, write, sync, acknowledge, add_file, write_checkpoint, stand, delete, crash, stop, resume, start_afresh, left_behind, IsFreshStart, records_in, Life, begun, then}
+use Rattle.mt_laws.specs.Lives.{IsAdded, MayStandOn, AreOpen, IsSyncedAbove, AllSyncedAbove, LogOf, there, deleted, those_there, IsStill, as_written, history_of, updates_in, AreOld, Checkpoints, BeginsRise, IsNewOver, AddNew, AreLeftOf, listed, only, IsLeftOf, IsResumedAs, AreDeleted, State, running, down, IsStep, write, sync, acknowledge, add_file, write_checkpoint, stand, delete, crash, stop, resume, start_afresh, left_behind, IsFreshStart, records_in, Life, begun, then}
 use Rattle.mt_laws.proofs.Windows.{within}
 use Rattle.mt_laws.proofs.CutLogs.{cut_log}
 use Rattle.mt_laws.proofs.SomeCutoff.{some_cutoff}
@@ -742,7 +743,7 @@ all_behind cutoff logs begin rises old rise rs at =
     ]
 
 -- a file of marks adds no update
-marks_add_none : (log : ℕ) (logs : List (LogOf OpenFile)) (file : OpenFile) (u : Update) → ((r : Logged) → Contains file.records r → is_mark r ≡ true)
+pub marks_add_none : (log : ℕ) (logs : List (LogOf OpenFile)) (file : OpenFile) (u : Update) → ((r : Logged) → Contains file.records r → is_mark r ≡ true)
     → Contains (all_updates log (history_of (map as_written (logs ++ there file ∷ [])))) u → Contains (all_updates log (history_of (map as_written logs))) u
 marks_add_none log [] file u marks at = elim (Contains-append_cases (updates_from log 0 file.records) [] u at) as (λ _. Contains (all_updates log []) u) [
   | inl here ↦ let found = of_record log 0 file.records u here in absurd (both_ways (is_mark found.0) found.2.1 (marks found.0 found.1))

@@ -26,7 +26,8 @@ use Rattle.mt_scan.specs.Segments.{IsGap}
 use Rattle.mt_scan.proofs.SegmentCases.{from_begin}
 use Rattle.mt_recover.specs.Recovery.{AreReadings, entry_updates, begin_of, survivors, records_of, IsStoreOf}
 use Rattle.mt_recover.proofs.FoundLemmas.{alone}
-use Rattle.mt_laws.specs.Crashes.{IsCutOf, IsBeginningOf, IsAlone, NoSegments, IsCrash}
+use Rattle.mt_writer.specs.Files.{IsCutOf}
+use Rattle.mt_laws.specs.Crashes.{IsBeginningOf, IsAlone, NoSegments, IsCrash}
 use Rattle.mt_laws.proofs.Windows.{within, outside, one_outside}
 use Rattle.mt_laws.proofs.CutLogs.{cut_log}
 

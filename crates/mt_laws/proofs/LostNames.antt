@@ -8,7 +8,8 @@ use Rattle.mt_record.specs.Logs.{LogReading}
 use Rattle.mt_scan.specs.Segments.{IsEarlier, IsJustBefore, IsSame, HasFile, HasGap}
 use Rattle.mt_replay.proofs.Members.{of_map, in_map}
 use Rattle.mt_recover.specs.Recovery.{begin_of}
-use Rattle.mt_laws.specs.Lives.{OpenFile, file_reading, IsBehind, AreOpen, IsSyncedAbove, AllSyncedAbove, LogOf, there, deleted, those_there, Checkpoints, IsStillOrDeleted, AreDeleted, running, delete, Life, then}
+use Rattle.mt_writer.specs.Files.{OpenFile, file_reading}
+use Rattle.mt_laws.specs.Lives.{IsBehind, AreOpen, IsSyncedAbove, AllSyncedAbove, LogOf, there, deleted, those_there, Checkpoints, IsStillOrDeleted, AreDeleted, running, delete, Life, then}
 use Rattle.mt_laws.specs.Names.{IsNew, IsLowest, AreNamesLeft}
 use Rattle.mt_laws.proofs.LeftFiles.{none_at}
 use Rattle.mt_laws.proofs.Doubled.{AreApart, apart_of, once_of, none_of}

@@ -30,7 +30,9 @@ use Rattle.mt_replay.specs.KeyColumns.{HasColumn}
 use Rattle.mt_replay.specs.Survivors.{log_updates}
 use Rattle.mt_replay.specs.Walk.{IsWalk}
 use Rattle.mt_replay.proofs.Members.{of_map}
-use Rattle.mt_laws.specs.Lives.{OpenFile, file_bytes, file_reading, HasSynced, IsOpenFile, IsBehind, AreOpen, IsSyncedAbove, AllSyncedAbove, LogOf, there, deleted, Checkpoints, AreLeftOf, only, IsAdded, AreDeleted, running, down, acknowledge, add_file, write_checkpoint, stand, delete, crash, Life, begun, then}
+use Rattle.mt_writer.specs.Files.{OpenFile, file_bytes, file_reading, HasSynced}
+use Rattle.mt_laws.specs.Lives.{IsBehind, AreOpen, IsSyncedAbove, AllSyncedAbove, LogOf, there, deleted, Checkpoints, AreLeftOf, only, IsAdded, AreDeleted, running, down, acknowledge, add_file, write_checkpoint, stand, delete, crash, Life, begun, then}
+use Rattle.mt_laws.specs.Writing.{IsAloneFrom}
 use Rattle.mt_laws.proofs.Deleted.{not_made_of_none}
 use Rattle.mt_laws.proofs.LeftFiles.{none_at}
 use Rattle.mt_laws.proofs.Afresh.{AreStored, fresh_sound}
@@ -43,12 +45,6 @@ some_same : (a b : List ℕ) → Some a ≡ Some b → a ≡ b
 some_same a b same = cc
 
 -- ---- files that are no segments
-
--- an open file that is no segment, with a `from` of at most the timestamp
-pub record IsAloneFrom (begin : ℕ) (file : OpenFile) : Type 0 where
-  pub is_open : IsOpenFile file
-  pub alone : file.head.segment ≡ None
-  pub from : file.head.from ≤ begin
 
 pub all_alone : (begin : ℕ) (files : List OpenFile) → ((file : OpenFile) → Contains files file → IsAloneFrom begin file) → AreOpen begin files
 all_alone begin files are = record {

@@ -11,11 +11,12 @@ use Rattle.mt_record.specs.Heads.{head_bytes}
 use Rattle.mt_record.specs.Logs.{LogReading, IsReading, times_of}
 use Rattle.mt_record.specs.Spelling.{spelling}
 use Rattle.mt_scan.specs.Segments.{IsEarlier, IsSame, HasGap}
-use Rattle.mt_laws.specs.Lives.{OpenFile, file_bytes, file_reading, HasSynced, IsOpenFile, IsBehind, AreOpen, there, only, IsAdded, running, acknowledge, add_file, Life, begun, then}
+use Rattle.mt_writer.specs.Files.{OpenFile, file_bytes, file_reading, HasSynced, IsOpenFile}
+use Rattle.mt_writer.proofs.JournalLemmas.{whole_reading}
+use Rattle.mt_laws.specs.Lives.{IsBehind, AreOpen, there, only, IsAdded, running, acknowledge, add_file, Life, begun, then}
 use Rattle.mt_laws.proofs.LeftFiles.{none_at}
 use Rattle.mt_laws.proofs.Living.{all_of_it}
 use Rattle.mt_laws.proofs.Doubled.{once_of}
-use Rattle.mt_laws.proofs.Acknowledging.{reads}
 use Rattle.mt_laws.proofs.SomeLife.{only_one, update}
 
 -- a file, all of which is synced
@@ -34,11 +35,11 @@ abbrev second : OpenFile
 second = synced_file (segment_head 3 1 2) (mark_of 5 ∷ [])
 
 first_reads : IsReading (file_bytes first) (file_reading first)
-first_reads = reads first (record { from = omega arith; segment = (refl, omega arith, omega arith) })
+first_reads = whole_reading first.head first.records (record { from = omega arith; segment = (refl, omega arith, omega arith) })
     ((omega arith, (record { version = omega arith; version_fits = omega arith; key = omega arith; kind = ((((omega arith, omega arith), tt), (omega arith, tt)), omega arith) }, tt)), omega arith, ((omega arith, tt), omega arith, tt))
 
 second_reads : IsReading (file_bytes second) (file_reading second)
-second_reads = reads second (record { from = omega arith; segment = (refl, omega arith, omega arith) }) ((omega arith, tt), omega arith, tt)
+second_reads = whole_reading second.head second.records (record { from = omega arith; segment = (refl, omega arith, omega arith) }) ((omega arith, tt), omega arith, tt)
 
 first_synced : (P : Logged → Type 0) → P (mark_of 3) → HasSynced P first
 first_synced P holds = record { reading = file_reading first; is_reading = first_reads; at = mark_of 3; stands = tail_in put (mark_of 3) (mark_of 3 ∷ []) (head_in (mark_of 3) []); holds = holds }

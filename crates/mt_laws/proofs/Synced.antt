@@ -14,7 +14,8 @@ use Rattle.mt_record.proofs.OneReading.{one_reading_of}
 use Rattle.mt_scan.specs.Cutoff.{HasLast}
 use Rattle.mt_recover.specs.Recovery.{AreReadings}
 use Rattle.mt_recover.proofs.FoundLemmas.{alone}
-use Rattle.mt_laws.specs.Crashes.{IsCutOf, IsBeginningOf, IsAlone, AreSyncedBeyond}
+use Rattle.mt_writer.specs.Files.{IsCutOf}
+use Rattle.mt_laws.specs.Crashes.{IsBeginningOf, IsAlone, AreSyncedBeyond}
 use Rattle.mt_laws.proofs.CutLogs.{cut_log}
 
 -- the times of a beginning are among those of the log

@@ -5,29 +5,15 @@ use Rattle.mt_words.specs.declared.record.Change.{Change}
 use Rattle.mt_words.specs.declared.update.Update.{Update}
 use Rattle.mt_words.specs.Changes.{Logged, Writes, IsWhole}
 use Rattle.mt_words.specs.Stamps.{IsOlder}
-use Rattle.mt_record.specs.declared.feed.head.Head.{Head}
-use Rattle.mt_record.specs.Heads.{IsHead, head_bytes}
 use Rattle.mt_record.specs.Logs.{LogReading, IsReading}
 use Rattle.mt_scan.specs.Cutoff.{HasLast}
 use Rattle.mt_scan.specs.Choice.{CheckpointReading}
 use Rattle.mt_replay.specs.KeyColumns.{HasColumn}
 use Rattle.mt_replay.specs.Survivors.{log_updates}
 use Rattle.mt_recover.specs.Recovery.{AreReadings, begin_of}
+use Rattle.mt_writer.specs.Files.{IsCutOf}
 
 -- ---- logs that a crash cut
-
--- the bytes begin with a whole header
-pub record HasHeader (bytes : List ℕ) : Type 0 where
-  pub head : Head
-  pub is_head : IsHead head
-  pub more : List ℕ
-  pub spelled : bytes ≡ head_bytes head ++ more
-
--- what is left is a beginning of the bytes that were written, and has at least their whole header
-pub record IsCutOf (left written : List ℕ) : Type 0 where
-  pub lost : List ℕ
-  pub begins : written ≡ left ++ lost
-  pub header : HasHeader left
 
 -- the same header, and a beginning of the records
 pub record IsBeginningOf (left written : LogReading) : Type 0 where

@@ -14,7 +14,7 @@ use Rattle.mt_scan.specs.Segments.{AreWriters, IsGap}
 use Rattle.mt_replay.specs.Survivors.{log_survivors}
 use Rattle.mt_recover.specs.Recovery.{Facts, survivors, records_of}
 use Rattle.mt_recover.specs.Report.{Outcome}
-use Rattle.mt_laws.specs.Lives.{OpenFile}
+use Rattle.mt_writer.specs.Files.{OpenFile}
 
 -- the bytes of all parts of the checkpoint, in order
 abbrev pub part_texts : Checkpoint → List (List ℕ)

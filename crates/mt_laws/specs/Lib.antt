@@ -4,3 +4,4 @@ pub mod Lives
 pub mod Names
 pub mod Fresh
 pub mod PartFiles
+pub mod Writing

@@ -10,8 +10,7 @@ use Rattle.mt_words.specs.Changes.{Logged, is_mark, IsLoggedChange}
 use Rattle.mt_words.specs.Limits.{widest}
 use Rattle.mt_words.specs.Updates.{update_at}
 use Rattle.mt_words.specs.Walks.{Pair}
-use Rattle.mt_record.specs.declared.feed.head.Head.{Head}
-use Rattle.mt_record.specs.Logs.{log_bytes, LogReading, IsReading, times_of}
+use Rattle.mt_record.specs.Logs.{LogReading, IsReading, times_of}
 use Rattle.mt_record.specs.Resuming.{greatest_timestamp, below, resumed}
 use Rattle.mt_checkpoint.specs.Checkpoints.{entries_with}
 use Rattle.mt_scan.specs.PartScans.{KnownPart}
@@ -20,37 +19,11 @@ use Rattle.mt_scan.specs.Segments.{IsEarlier, IsDoubled, IsGap}
 use Rattle.mt_replay.specs.Survivors.{log_updates}
 use Rattle.mt_replay.specs.Walk.{IsWalk}
 use Rattle.mt_recover.specs.Recovery.{AreKnown, Facts, begin_of, survivors, records_of}
-use Rattle.mt_laws.specs.Crashes.{IsCutOf, IsSound}
+use Rattle.mt_writer.specs.Files.{IsCutOf, OpenFile, file_bytes, file_reading, HasSynced, IsOpenFile, IsWritten, IsSynced}
+use Rattle.mt_laws.specs.Crashes.{IsSound}
 use Rattle.mt_laws.specs.Resuming.{IsOnTheWay}
 
 -- ---- files
-
--- a file of a log, as it is being written: its header, its records, and the bytes of it that are synced
-pub record OpenFile : Type 0 where
-  pub head : Head
-  pub records : List Logged
-  pub synced : List ℕ
-
-abbrev pub file_bytes : OpenFile → List ℕ
-file_bytes file = log_bytes file.head file.records
-
--- what the file says
-abbrev pub file_reading : OpenFile → LogReading
-file_reading file = record { head = file.head; records = file.records; torn = false }
-
--- a record for which `P` holds is synced
-pub record HasSynced (P : Logged → Type 0) (file : OpenFile) : Type 0 where
-  pub reading : LogReading
-  pub is_reading : IsReading file.synced reading
-  pub at : Logged
-  pub stands : Contains reading.records at
-  pub holds : P at
-
--- the file is lawful; what is synced is a beginning of it, with a whole header and a record at or past its `from`
-pub record IsOpenFile (file : OpenFile) : Type 0 where
-  pub is_reading : IsReading (file_bytes file) (file_reading file)
-  pub synced : IsCutOf file.synced (file_bytes file)
-  pub claim : HasSynced (λ r. file.head.from ≤ r.timestamp) file
 
 -- the first file is an earlier segment of the second one's log
 abbrev pub IsBehind : OpenFile → OpenFile → Type 0
@@ -179,19 +152,6 @@ abbrev pub only : Option CheckpointReading → Checkpoints
 only chosen = record { written = listed chosen; base = chosen }
 
 -- ---- steps
-
--- records were appended, if any, and nothing more is synced
-pub record IsWritten (before after : OpenFile) : Type 0 where
-  pub new : List Logged
-  pub head : after.head ≡ before.head
-  pub records : after.records ≡ before.records ++ new
-  pub synced : after.synced ≡ before.synced
-
--- nothing was appended, and more is synced, if any
-pub record IsSynced (before after : OpenFile) : Type 0 where
-  pub head : after.head ≡ before.head
-  pub records : after.records ≡ before.records
-  pub more : IsCutOf before.synced after.synced
 
 -- what is left of the file: at least what is synced
 abbrev pub IsLeftOf : OpenFile → List ℕ → Type 0

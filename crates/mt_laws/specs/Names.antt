@@ -2,7 +2,8 @@
 use Rattle.std.specs.Prelude.{◌⊎◌, ℕ, ◌≤◌, ◌<◌, List, length, Contains}
 use Rattle.std.specs.List.{AllZip}
 use Rattle.mt_scan.specs.Segments.{IsJustBefore}
-use Rattle.mt_laws.specs.Lives.{OpenFile, HasSynced, IsBehind, IsSyncedAbove, LogOf, those_there, IsStillOrDeleted}
+use Rattle.mt_writer.specs.Files.{OpenFile, HasSynced}
+use Rattle.mt_laws.specs.Lives.{IsBehind, IsSyncedAbove, LogOf, those_there, IsStillOrDeleted}
 
 -- in the file, or in a later segment of its log before the new one, a record above the timestamp is synced
 pub record IsSyncedBefore (time : ℕ) (files : List OpenFile) (new file : OpenFile) : Type 0 where

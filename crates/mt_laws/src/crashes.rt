@@ -9,7 +9,8 @@ ghost use Rattle.mt_replay.specs.Survivors.{log_updates};
 ghost use Rattle.mt_replay.specs.Walk.{IsWalk};
 ghost use Rattle.mt_scan.specs.Segments.{IsGap};
 ghost use Rattle.mt_recover.specs.Recovery.{AreReadings, begin_of, survivors, records_of, IsStoreOf};
-ghost use Rattle.mt_laws.specs.Crashes.{IsCutOf, SaysBeginning, IsCrash, AreSyncedBeyond};
+ghost use Rattle.mt_writer.specs.Files.{IsCutOf};
+ghost use Rattle.mt_laws.specs.Crashes.{SaysBeginning, IsCrash, AreSyncedBeyond};
 
 /// States that a beginning of a log, if it has the whole header, is a log with the same header, whose records are a
 /// beginning of the log's. This is a law: it has nothing to run.

@@ -3,9 +3,9 @@
 //! how a server goes on, crash after crash.
 //!
 //! Each law is a function with an empty body, whose contract is the law. For a crash begin with `specs/Crashes.antt`,
-//! for going on with `specs/Resuming.antt`, `specs/Lives.antt`, `specs/Names.antt`, `specs/PartFiles.antt` and
-//! `specs/Fresh.antt`, which have the definitions, and with docs/DURABILITY.md, which says what a server must do for the
-//! laws to hold.
+//! for going on with `specs/Resuming.antt`, `specs/Lives.antt`, `specs/Names.antt`, `specs/PartFiles.antt`,
+//! `specs/Fresh.antt` and, over `mt_writer`, `specs/Writing.antt`, which have the definitions, and with
+//! docs/DURABILITY.md, which says what a server must do for the laws to hold.
 #![tactic(auto)]
 
 mod checkpoints;
@@ -16,6 +16,7 @@ mod part_files;
 mod readings;
 mod resuming;
 mod verdicts;
+mod writing;
 
 pub use checkpoints::{
     a_sound_checkpoint_changes_nothing, acknowledged_is_in_the_history, old_records_may_go,
@@ -36,3 +37,4 @@ pub use resuming::{
     resuming_changes_nothing,
 };
 pub use verdicts::some_verdict;
+pub use writing::{a_writer_takes_steps, calls_are_a_life};

@@ -11,7 +11,8 @@ ghost use Rattle.mt_scan.specs.Choice.{CheckpointReading};
 ghost use Rattle.mt_replay.specs.Survivors.{log_updates};
 ghost use Rattle.mt_replay.specs.Walk.{IsWalk};
 ghost use Rattle.mt_recover.specs.Recovery.{begin_of, survivors, IsStoreOf};
-ghost use Rattle.mt_laws.specs.Lives.{OpenFile, IsBehind, LogOf, there, deleted, those_there, as_written, history_of, updates_in, Checkpoints, IsNewOver, AddNew, IsLater, HaveTimestamps, MayComeNext, AreLeftOf, only, IsLeftOf, left_behind, running, down, Life};
+ghost use Rattle.mt_writer.specs.Files.{OpenFile};
+ghost use Rattle.mt_laws.specs.Lives.{IsBehind, LogOf, there, deleted, those_there, as_written, history_of, updates_in, Checkpoints, IsNewOver, AddNew, IsLater, HaveTimestamps, MayComeNext, AreLeftOf, only, IsLeftOf, left_behind, running, down, Life};
 ghost use Rattle.mt_laws.specs.Names.{AreNamesLeft};
 
 /// States that in each life of a server over logs and checkpoints, after each crash, there is a store and no fault. It is
