@@ -25,16 +25,26 @@ pub enum OpenedFile<'c, F> {
 impl<'c, F: Read> Read for OpenedFile<'c, F> {
     fn read(&mut self, bytes: &mut [u8]) -> io::Result<usize> {
         match self {
-            OpenedFile::Opened(file) => loop {
-                match file.read(bytes) {
-                    // A signal came meanwhile.
-                    Err(error) if error.kind() == ErrorKind::Interrupted => {}
-                    read => return read,
+            OpenedFile::Opened(file) => {
+                for _ in 0..u64::MAX {
+                    let read = file.read(bytes);
+                    if !is_interrupted(&read) {
+                        return read;
+                    }
                 }
-            },
+                Err(io::Error::from(ErrorKind::Interrupted))
+            }
             OpenedFile::Replaced(rest) => rest.read(bytes),
             OpenedFile::Unopened => Err(io::Error::from(ErrorKind::NotFound)),
         }
+    }
+}
+
+/// Whether a signal came before anything was read.
+fn is_interrupted(read: &io::Result<usize>) -> bool {
+    match read {
+        Ok(_) => false,
+        Err(error) => error.kind() == ErrorKind::Interrupted,
     }
 }
 
