@@ -8,7 +8,7 @@ use crate::row::{Cell, Field, write_row};
 use crate::saving::Site;
 use mt_checkpoint::PlanFault;
 use mt_record::{Head, encode_log_header_2, encode_record, header_at, records_below};
-use mt_recover::{Refusal, check_parts};
+use mt_recover::{Failure, MOST_FILES, Refusal, check_parts};
 use mt_scan::{Checkpoint, Choice, choose};
 use mt_words::{Fault, Record};
 use std::io::{self, ErrorKind, Write};
@@ -30,7 +30,8 @@ impl NewLog {
         from: u64,
     ) -> Result<NewLog, Halt<'static>> {
         let mark = last.saturating_add(1);
-        if mark == u64::MAX {
+        // An update goes on from the mark, and needs a mark above it that does not end the log.
+        if mark >= u64::MAX - 1 {
             return Err(Halt::Unplanned("log", PlanFault::Timestamp));
         }
         let mut bytes = Vec::new(site.rt.alloc());
@@ -93,6 +94,7 @@ impl<'a, R: Host> Run<'a, R> {
         if how.is_strict && losses.is_some() {
             return Ok(losses.map(Caveat::Losses));
         }
+        expect_room(self.names.parts.len())?;
         let log = NewLog::above(site, checkpoint.end, checkpoint.begin)?;
         if !how.is_dry {
             for name in &self.names.parts {
@@ -130,6 +132,14 @@ impl<'a, R: Host> Run<'a, R> {
         let path = self.folder.path;
         Halt::stuck(self.rt.alloc(), "begin a log in", path, reason, advice)
     }
+}
+
+/// Refuses a further file beside so many, if recovery could not read all of them.
+pub fn expect_room(files: usize) -> Result<(), Refusal<'static>> {
+    if files >= MOST_FILES {
+        return Err(Refusal::from(Failure::TooManyFiles));
+    }
+    Ok(())
 }
 
 /// Returns the line of a log: how many updates were dropped, how many bytes it had, and how many it has.

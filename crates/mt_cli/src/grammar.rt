@@ -220,7 +220,7 @@ const OTHERS: &[Subcommand] = subcommands! {
     "cut", [LOG, VERBOSE, SKIP, HEADER, BELOW, OUTPUT],
         "Prints a log of the complete records of a log, up to its fault or torn tail, or with --skip beyond it",
         "To go on with a damaged log (docs/RUNBOOK.md has what that loses):\n\
-        \x20 test -e BACKUP || cp -a DIR BACKUP\n\
+        \x20 test -e BACKUP || { cp -a DIR/. BACKUP.new && sync && mv BACKUP.new BACKUP; }\n\
         \x20 mtrecover cut BACKUP/w0.mtl --skip -o DIR/w0.mtl\n\
         \x20 mtrecover report DIR --strict";
     "completions", [SHELL],

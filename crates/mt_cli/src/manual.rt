@@ -31,7 +31,7 @@ const END: &[u8] = b".SH EXAMPLES
 mtrecover report DIR
 mtrecover get DIR fig \\-\\-text
 mtrecover check DIR \\-\\-chart
-test \\-e BACKUP || cp \\-a DIR BACKUP
+test \\-e BACKUP || { cp \\-a DIR/. BACKUP.new && sync && mv BACKUP.new BACKUP; }
 mtrecover resume DIR
 .fi
 .SH BUGS

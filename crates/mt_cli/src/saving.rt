@@ -11,6 +11,10 @@ use std::path::{Path, PathBuf};
 /// What is added to the path of a file while it is written. No log and no part has such a name.
 const UNFINISHED: &str = "new";
 
+/// What to try after a failed sync. If it is tried again, it may succeed although bytes are lost.
+const AFTER_FAILED_SYNC: &str =
+    "restart the machine, so that only what the disk has is read; then run it again";
+
 /// A folder whose files are changed.
 #[derive(Drop)]
 pub struct Site<'a, R> {
@@ -49,12 +53,12 @@ impl<'a, R: Host> Site<'a, R> {
     /// Syncs the bytes of the file of this name.
     pub fn sync_file(&self, name: &str) -> Result<(), Halt<'static>> {
         let path = self.path(name)?;
-        self.tell("sync", name, sync_path(self.rt, path.as_str()))
+        self.tell_synced(name, sync_path(self.rt, path.as_str()))
     }
 
     /// Syncs the names of the folder, and not the bytes of its files.
     pub fn sync(&self) -> Result<(), Halt<'static>> {
-        self.tell("sync", self.folder, sync_path(self.rt, self.folder))
+        self.tell_synced(self.folder, sync_path(self.rt, self.folder))
     }
 
     /// Gives the file of this name these bytes, one after the other, in one step. It keeps its owner, its group and its mode.
@@ -101,6 +105,14 @@ impl<'a, R: Host> Site<'a, R> {
         match outcome {
             Ok(value) => Ok(value),
             Err(error) => Err(Halt::stuck(self.rt.alloc(), doing, name, error, self.advice)),
+        }
+    }
+
+    /// Passes on what became of a sync.
+    fn tell_synced(&self, name: &str, outcome: io::Result<()>) -> Result<(), Halt<'static>> {
+        match outcome {
+            Ok(()) => Ok(()),
+            Err(error) => Err(Halt::stuck(self.rt.alloc(), "sync", name, error, AFTER_FAILED_SYNC)),
         }
     }
 
