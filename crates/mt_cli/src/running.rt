@@ -84,20 +84,18 @@ pub fn run_words<R: Host, I: Read + IsTerminal, O: Write, E: Write + Send>(
             return answer_file(rt, file, around.prints_at_terminal, out, err);
         }
     };
-    let none = Names::new(rt.alloc());
-    let start = host::Run {
-        rt,
-        folder,
-        names: &none,
-    };
     // The lock ends with the program.
-    let _lock = match lock_folder(rt, folder.path, task.lock()) {
-        Ok(lock) => lock,
-        Err(halt) => return start.end(Err(halt), err),
-    };
-    let names = match list(rt, folder.path) {
-        Ok(names) => names,
-        Err(refusal) => return start.end(Err(Halt::from(refusal)), err),
+    let (_lock, names) = match lock_and_list(rt, folder.path, task.lock()) {
+        Ok(locked) => locked,
+        Err(halt) => {
+            let none = Names::new(rt.alloc());
+            let start = host::Run {
+                rt,
+                folder,
+                names: &none,
+            };
+            return start.end(Err(halt), err);
+        }
     };
     let run = host::Run {
         rt,
@@ -116,4 +114,15 @@ pub fn run_words<R: Host, I: Read + IsTerminal, O: Write, E: Write + Send>(
         },
     };
     run.end(outcome, err)
+}
+
+/// Locks the folder, as the command asks, and returns the lock and the names of its files.
+fn lock_and_list<'a, R: Host>(
+    rt: &R,
+    path: &'a str,
+    shared: Option<bool>,
+) -> Result<(Option<R::File>, Names), Halt<'a>> {
+    let lock = lock_folder(rt, path, shared)?;
+    let names = list(rt, path)?;
+    Ok((lock, names))
 }
