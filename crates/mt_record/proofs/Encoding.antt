@@ -33,7 +33,7 @@ abbrev pub first_bytes : ℕ → List (ℕ × List ℕ) → List ℕ
 first_bytes i cs = flat_map column_bytes (take i cs)
 
 -- the bytes of one more column are appended
-one_more : (cs : List (ℕ × List ℕ)) (i : ℕ) (c : ℕ × List ℕ) → i < length cs → c ≡ get_or cs i c → first_bytes (i + 1) cs ≡ first_bytes i cs ++ column_bytes c
+pub one_more : (cs : List (ℕ × List ℕ)) (i : ℕ) (c : ℕ × List ℕ) → i < length cs → c ≡ get_or cs i c → first_bytes (i + 1) cs ≡ first_bytes i cs ++ column_bytes c
 one_more cs i c below is =
     let next : i + 1 ≡ suc i = omega arith in
     let front : take (i + 1) cs ≡ take i cs ++ c ∷ [] =

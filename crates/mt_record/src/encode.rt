@@ -1,4 +1,5 @@
 //! Encodes logs. Room for all bytes is reserved first, so a failed allocation writes nothing.
+pub mod given;
 pub mod parts;
 pub mod put;
 
@@ -172,7 +173,7 @@ pub fn put_kind(kind: &Kind, out: &mut Vec<u8>)
 }
 
 /// Appends the count of the column numbers, then the numbers.
-fn put_numbers(numbers: &[u8], out: &mut Vec<u8>)
+pub fn put_numbers(numbers: &[u8], out: &mut Vec<u8>)
     requires lawful { AreNumbers widest numbers.now }
     requires room { HasRoom (length (kind_bytes (Erase numbers.now))) out.old }
     ensures { Adds (kind_bytes (Erase numbers.now)) out.old out.new }

@@ -31,6 +31,7 @@ mod salvage;
 
 pub use body::lent::Lent;
 pub use body::lent_writes::LentWrites;
+pub use encode::given::{Given, GivenChange, GivenKind, encode_given, encode_given_entry};
 pub use encode::parts::{
     encode_entry, encode_part, encode_part_2, encode_part_footer, encode_part_header,
 };
