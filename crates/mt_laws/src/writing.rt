@@ -10,12 +10,6 @@ ghost use Rattle.mt_writer.specs.Journals.{Journal, Writer, Keeps, file_of, hold
 ghost use Rattle.mt_laws.specs.Lives.{AreOpen, LogOf, there, those_there, updates_in, as_written, Checkpoints, IsLeftOf, AreLeftOf, running, down, IsStep, Life};
 ghost use Rattle.mt_laws.specs.Writing.{with_file, MayBeWritten, IsClock, IsStamped, IsStampedUpTo, IsLogReached, Server, logs_of, state_of, Stands, Called};
 
-use mt_recover::MOST_BYTES as MOST_READ;
-use mt_writer::MOST_BYTES;
-
-// Recovery reads all that a writer writes.
-const _: () = prove!(MOST_BYTES == MOST_READ);
-
 /// States that the calls of a writer are steps of a life. A record that the clock stamped is written, and what is noted
 /// as synced is synced; then the log may be written further, and the clock may go on. An update below a reach of all logs
 /// is acknowledged. A file is added whose mark is above all that was acknowledged. This is a law: it has nothing to run.

@@ -50,6 +50,6 @@ pub use kept::updates::Updates;
 pub use laws::{one_part, one_reading, one_salvage};
 pub use part_front::{entry_at, footer_of};
 pub use part_text::{PartFault, PartHead, PartText};
-pub use read::{FeedFault, LogText, cut_log, read_log, record_at};
+pub use read::{FeedFault, LogText, MOST_BYTES, cut_log, read_log, record_at};
 pub use resume::{ResumedLog, encode_head, resume_log};
 pub use salvage::{ENOUGH_RECORDS, Stretch, records_below, salvage_records};

@@ -17,6 +17,9 @@ use mt_words::{Fault, Format, Memory, Record, What};
 use std::alloc::Global;
 use thiserror::Error;
 
+/// The most bytes of a file that recovery reads.
+pub const MOST_BYTES: u64 = 1_073_741_824;
+
 /// A log that was read.
 #[derive(Debug, Drop)]
 pub struct LogText<R = Vec<Record>> {

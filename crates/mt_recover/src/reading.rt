@@ -1,18 +1,16 @@
 //! Reads files into memory.
 ghost use Rattle.std.specs.Prelude.{◌≢◌, ◌≤◌, length, IfOk, IfErr};
+ghost use Rattle.mt_record.specs.declared.read.TheConstants.{MOST_BYTES};
 ghost use Rattle.mt_scan.specs.Sources.{Agrees};
-ghost use Rattle.mt_recover.specs.declared.reading.TheConstants.{MOST_BYTES};
 ghost use Rattle.mt_recover.specs.Program.{AreOfSomeFile, status_of};
 
 use crate::failure::{Failure, Refusal};
+use mt_record::MOST_BYTES;
 use mt_words::Fault;
 use std::alloc::Global;
 use std::fs::{File, OpenFile};
 use std::io::{self, ErrorKind, Read};
 use std::rt::Files;
-
-/// The most bytes that a file may have.
-pub const MOST_BYTES: u64 = 1_073_741_824;
 
 /// Reads the file of this path as the log of this number. Err: it cannot be opened or read, has more than `MOST_BYTES`
 /// bytes, or out of memory.

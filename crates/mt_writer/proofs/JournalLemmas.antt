@@ -16,13 +16,14 @@ use Rattle.mt_record.specs.Heads.{IsHead, head_bytes}
 use Rattle.byteorder.specs.Endian.{big_bytes}
 use Rattle.mt_record.specs.Spelling.{body, spelling}
 use Rattle.mt_record.specs.Logs.{AreRecords, latest, log_bytes, LogReading, IsReading, times_of}
+use Rattle.mt_record.specs.declared.read.TheConstants.{MOST_BYTES}
 use Rattle.mt_record.specs.declared.front.Rest.{Rest}
 use Rattle.mt_record.specs.declared.front.LogFront.{LogFront}
 use Rattle.mt_record.specs.LogFronts.{IsRest, IsFrontOf}
 use Rattle.mt_record.proofs.Lawful.{lawful_length}
 use Rattle.mt_record.proofs.Records.{records_push, latest_push, torn_some}
 use Rattle.mt_record.proofs.OneReading.{one_reading_of}
-use Rattle.mt_writer.specs.declared.log_writer.TheConstants.{LONGEST_RECORD, MOST_BYTES}
+use Rattle.mt_writer.specs.declared.log_writer.TheConstants.{LONGEST_RECORD}
 use Rattle.mt_writer.specs.Files.{OpenFile, file_bytes, file_reading, HasSynced, IsOpenFile, IsCutOf, IsWritten, IsSynced}
 use Rattle.mt_writer.specs.Journals.{Journal, records_of, handed_out, file_of, read_back, holding, taking, syncing, begun, Writer, Keeps, NewFile, Begins, MayGoOn, IsReached}
 

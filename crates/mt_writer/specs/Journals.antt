@@ -10,9 +10,9 @@ use Rattle.mt_record.specs.declared.feed.head.Head.{Head}
 use Rattle.mt_record.specs.Heads.{IsHead}
 use Rattle.mt_record.specs.Spelling.{spelling}
 use Rattle.mt_record.specs.Logs.{AreRecords, latest, log_bytes, times_of}
+use Rattle.mt_record.specs.declared.read.TheConstants.{MOST_BYTES}
 use Rattle.mt_record.specs.declared.front.Rest.TheVariants.{Nothing}
 use Rattle.mt_record.specs.declared.front.LogFront.{LogFront}
-use Rattle.mt_writer.specs.declared.log_writer.TheConstants.{MOST_BYTES}
 use Rattle.mt_writer.specs.Files.{OpenFile, file_bytes, file_reading, HasSynced}
 
 -- A file of a log, as its writer knows it: the records that are synced, those that were taken to be appended, and those that are held in the buffer, in this order.

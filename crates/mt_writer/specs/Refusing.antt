@@ -1,7 +1,8 @@
 -- Why a log takes no record.
 use Rattle.std.specs.Prelude.{◌<◌, ◌≤◌, ◌+◌, ℕ, max}
 use Rattle.mt_record.specs.Resuming.{greatest_timestamp}
-use Rattle.mt_writer.specs.declared.log_writer.TheConstants.{LONGEST_RECORD, MOST_BYTES}
+use Rattle.mt_record.specs.declared.read.TheConstants.{MOST_BYTES}
+use Rattle.mt_writer.specs.declared.log_writer.TheConstants.{LONGEST_RECORD}
 use Rattle.mt_writer.specs.declared.writer_fault.WriterFault.{WriterFault}
 use Rattle.mt_writer.specs.declared.writer_fault.WriterFault.TheVariants as faults
 use Rattle.mt_writer.specs.Journals.{Writer}

@@ -29,7 +29,7 @@ mod tests;
 mod writer_fault;
 
 pub use laws::{a_journal_is_an_open_file, a_reach_stays_true};
-pub use log_writer::{LONGEST_RECORD, LogWriter, MOST_BYTES, Sealed};
+pub use log_writer::{LONGEST_RECORD, LogWriter, Sealed};
 pub use new_log::NewLog;
 pub use reaches::least_reach;
 pub use writer_fault::WriterFault;

@@ -11,14 +11,11 @@ ghost use Rattle.mt_writer.specs.Refusing.{HasEnded, IsRefused};
 ghost use Rattle.mt_writer.specs.declared.writer_fault.WriterFault.TheVariants as faults;
 
 use crate::writer_fault::WriterFault;
-use mt_record::{LogFront, Rest, Segment, encode_record};
+use mt_record::{LogFront, MOST_BYTES, Rest, Segment, encode_record};
 use mt_words::{Columns, Format, Key, Numbers, Record};
 use std::alloc::Global;
 use std::marker::Model;
 use std::mem;
-
-/// The most bytes of a file that recovery reads.
-pub const MOST_BYTES: u64 = 1_073_741_824;
 
 /// The most bytes of a record: a put with the longest key and all columns, each with the longest value.
 pub const LONGEST_RECORD: u64 = 4_198_556;
@@ -55,7 +52,7 @@ pub struct Sealed {
 impl Model for LogWriter {
     ghost use Rattle.std.specs.Prelude.{◌≤◌};
     ghost use Rattle.mt_writer.specs.Journals.{Writer};
-    ghost use Rattle.mt_writer.specs.declared.log_writer.TheConstants.{MOST_BYTES};
+    ghost use Rattle.mt_record.specs.declared.read.TheConstants.{MOST_BYTES};
 
     ghost Value = { Writer };
 
