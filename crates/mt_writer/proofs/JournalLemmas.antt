@@ -1,6 +1,6 @@
 -- Files of journals, and what each call of a writer does to them.
 use Rattle.std.proofs.Common.{◌≡◌, inl, inr, ℕ, ◌+◌, ◌-◌, ◌^◌, ◌<◌, ◌≤◌, List, [], ◌∷◌, ◌++◌, length, map, min, refl, sym, ap, ◌∙◌, subst, append_assoc, arith}
-use Rattle.std.specs.Prelude.{false, Contains}
+use Rattle.std.specs.Prelude.{true, false, ◌↔◌, Contains}
 use Rattle.std.specs.List.{flat_map}
 use Rattle.std.proofs.lemmas.Bool.{false≢true}
 use Rattle.std.proofs.lemmas.List.{append-nil, length-append}
@@ -122,28 +122,50 @@ reached w j keeps time below = reaches (λ r. time < r.timestamp) w j keeps (λ 
 
 -- ---- steps
 
+-- there is room for one more record
+pub room_left : (size : ℕ) (old new : List ℕ) (r : Logged) → IsLawful widest r → size + LONGEST_RECORD ≤ MOST_BYTES → new ≡ old ++ spelling r → size + length new ≤ MOST_BYTES + length old
+room_left size old new r lawful room is = omega (arith, room, spelled_length r lawful, ap length is, length-append old (spelling r))
+
 -- one more record
-pub held_more : (old new : Writer) (j : Journal) (r : Logged) → Keeps old j → IsLawful widest r → old.last ≤ r.timestamp → new.buffer ≡ old.buffer ++ spelling r
-    → new.last ≡ r.timestamp → new.taken ≡ old.taken → new.reach ≡ old.reach → new.size ≡ old.size + length (spelling r) → new.taken_size ≡ old.taken_size → new.synced_size ≡ old.synced_size
-    → new.segment ≡ old.segment → Keeps new (holding j r)
-held_more old new j r keeps lawful rises buffer last taken reach size taken_size synced_size segment =
+pub held_more : (old new : Writer) (j : Journal) (r : Logged) (bytes : List ℕ) (before : ℕ) → Keeps old j → IsLawful widest r → old.last ≤ r.timestamp → bytes ≡ old.buffer ++ spelling r
+    → before ≡ length old.buffer → new ≡ record old { buffer = bytes; last = r.timestamp; size = old.size + (length bytes - before) } → Keeps new (holding j r)
+held_more old new j r bytes before keeps lawful rises spelled counted is =
     let more : records_of (holding j r) ≡ records_of j ++ r ∷ [] = sym (append_assoc (handed_out j) j.held (r ∷ [])) in
-    let bytes = ap (λ (rs : List Logged). length (log_bytes j.head rs)) more ∙ ap length (more_bytes j.head (records_of j) (r ∷ [])) ∙ length-append (log_bytes j.head (records_of j)) (flat_map spelling (r ∷ [])) in
-    let one : flat_map spelling (r ∷ []) ≡ spelling r = append-nil (spelling r) in record {
+    let long = ap (λ (rs : List Logged). length (log_bytes j.head rs)) more ∙ ap length (more_bytes j.head (records_of j) (r ∷ [])) ∙ length-append (log_bytes j.head (records_of j)) (flat_map spelling (r ∷ [])) in
+    let one : flat_map spelling (r ∷ []) ≡ spelling r = append-nil (spelling r) in
+    subst (λ (w : Writer). Keeps w (holding j r)) (sym is) (record {
       format = keeps.format;
       is_head = keeps.is_head;
       lawful = subst (AreRecords widest 0) (sym more) (records_push widest 0 (records_of j) r keeps.lawful lawful (omega (arith, keeps.last, rises)));
-      buffer = buffer ∙ ap (λ (x : List ℕ). x ++ spelling r) keeps.buffer ∙ ap (λ (x : List ℕ). flat_map spelling j.held ++ x) (sym one) ∙ sym (flat_map-append spelling j.held (r ∷ []));
-      last = last ∙ sym (latest_push 0 (records_of j) r) ∙ ap (latest 0) (sym more);
-      taken = taken ∙ keeps.taken;
-      reach = reach ∙ keeps.reach;
+      buffer = spelled ∙ ap (λ (x : List ℕ). x ++ spelling r) keeps.buffer ∙ ap (λ (x : List ℕ). flat_map spelling j.held ++ x) (sym one) ∙ sym (flat_map-append spelling j.held (r ∷ []));
+      last = sym (latest_push 0 (records_of j) r) ∙ ap (latest 0) (sym more);
+      taken = keeps.taken;
+      reach = keeps.reach;
       some = keeps.some;
-      claim = omega (arith, keeps.claim, reach);
-      size = omega (arith, size, keeps.size, bytes, ap length one);
-      taken_size = taken_size ∙ keeps.taken_size;
-      synced_size = synced_size ∙ keeps.synced_size;
-      segment = segment ∙ keeps.segment;
-    }
+      claim = keeps.claim;
+      size = omega (arith, counted, keeps.size, long, ap length one, ap length spelled, length-append old.buffer (spelling r));
+      taken_size = keeps.taken_size;
+      synced_size = keeps.synced_size;
+      segment = keeps.segment;
+    })
+
+-- the same journal is kept after a failure
+pub failed_keeps : (old new : Writer) (j : Journal) → Keeps old j → new ≡ record old { failed = true } → Keeps new j
+failed_keeps old new j keeps is = subst (λ (w : Writer). Keeps w j) (sym is) (record {
+  format = keeps.format;
+  is_head = keeps.is_head;
+  lawful = keeps.lawful;
+  buffer = keeps.buffer;
+  last = keeps.last;
+  taken = keeps.taken;
+  reach = keeps.reach;
+  some = keeps.some;
+  claim = keeps.claim;
+  size = keeps.size;
+  taken_size = keeps.taken_size;
+  synced_size = keeps.synced_size;
+  segment = keeps.segment;
+})
 
 -- all held records are taken
 pub taken_all : (old new : Writer) (j : Journal) → Keeps old j → new.buffer ≡ [] → new.last ≡ old.last → new.taken ≡ old.last → new.reach ≡ old.reach
@@ -199,7 +221,7 @@ synced_all old new j keeps is =
     })
 
 -- a new file
-pub begun_keeps : (new : NewFile) (w : Writer) (head : Head) → Begins new head → w ≡ record { buffer = []; last = new.mark; taken = new.mark; reach = new.mark; size = length new.bytes; taken_size = length new.bytes; synced_size = length new.bytes; segment = new.segment }
+pub begun_keeps : (new : NewFile) (w : Writer) (head : Head) → Begins new head → w ≡ record { buffer = []; last = new.mark; taken = new.mark; reach = new.mark; size = length new.bytes; taken_size = length new.bytes; synced_size = length new.bytes; segment = new.segment; failed = false }
     → Keeps w (begun head new.mark)
 begun_keeps new w head begins is = subst (λ (x : Writer). Keeps x (begun head new.mark)) (sym is) (record {
   format = begins.format;
@@ -265,6 +287,14 @@ no_records (r ∷ rs) none =
     let all = length-append (spelling r) (flat_map spelling rs) in
     absurd (omega (arith, none, all))
 
+-- as many bytes are synced as were taken exactly if nothing is taken that is not synced
+pub none_taken : (w : Writer) (j : Journal) → Keeps w j → (w.taken_size ≡ w.synced_size) ↔ (j.taken ≡ [])
+none_taken w j keeps =
+    let out = ap length (more_bytes j.head j.synced j.taken) ∙ length-append (log_bytes j.head j.synced) (flat_map spelling j.taken) in (
+      λ same. no_records j.taken (omega (arith, same, keeps.taken_size, keeps.synced_size, out)),
+      λ none. omega (arith, keeps.taken_size, keeps.synced_size, out, ap (λ (rs : List Logged). length (flat_map spelling rs)) none),
+    )
+
 -- no time of lawful records is above the last
 times_most : (limits : Limits) (low : ℕ) (rs : List Logged) (time : ℕ) → AreRecords limits low rs → Contains (map (λ (r : Logged). r.timestamp) rs) time → time ≤ latest low rs
 times_most limits low [] time are at = absurd (no_element time at)
@@ -303,7 +333,7 @@ some_counted : (n count : ℕ) → count ≡ min n (2 ^ 64 - 1) → 0 < count �
 some_counted n count is some = omega (arith, is)
 
 pub resumed_keeps : (front : LogFront) (bytes : List ℕ) (records : List Logged) (w : Writer) → IsFrontOf bytes records front → MayGoOn front
-    → w ≡ record { buffer = []; last = front.latest; taken = front.latest; reach = front.latest; size = front.bytes; taken_size = front.bytes; synced_size = front.bytes; segment = front.head.segment }
+    → w ≡ record { buffer = []; last = front.latest; taken = front.latest; reach = front.latest; size = front.bytes; taken_size = front.bytes; synced_size = front.bytes; segment = front.head.segment; failed = false }
     → Keeps w (read_back front.head records) × (bytes ≡ log_bytes front.head records)
 resumed_keeps front bytes records w is may same =
     let all : records_of (read_back front.head records) ≡ records = append-nil (records ++ []) ∙ append-nil records in

@@ -1,5 +1,5 @@
 -- What a writer of a log keeps: its file, and how far it was taken and synced.
-use Rattle.std.specs.Prelude.{◌≡◌, ℕ, ◌≤◌, ◌<◌, ◌^◌, Option, Some, List, [], ◌∷◌, ◌++◌, length, Contains}
+use Rattle.std.specs.Prelude.{◌≡◌, ℕ, Bool, ◌≤◌, ◌<◌, ◌^◌, Option, Some, List, [], ◌∷◌, ◌++◌, length, Contains}
 use Rattle.std.specs.List.{flat_map}
 use Rattle.mt_words.specs.Changes.{Logged}
 use Rattle.mt_words.specs.Built.{mark_of}
@@ -66,6 +66,8 @@ pub record Writer : Type 0 where
   pub synced_size : ℕ
   -- the segment that the file is, if it is one
   pub segment : Option Segment
+  -- whether a write or a sync failed
+  pub failed : Bool
 
 -- The writer keeps this journal: the file is lawful, of format 2, has a synced record at or past its `from`, and the writer has its numbers.
 pub record Keeps (w : Writer) (j : Journal) : Type 0 where

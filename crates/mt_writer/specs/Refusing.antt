@@ -1,7 +1,11 @@
 -- Why a log takes no record.
-use Rattle.std.specs.Prelude.{◌<◌, ◌≤◌, ◌+◌, ℕ, max}
-use Rattle.mt_record.specs.Resuming.{greatest_timestamp}
+use Rattle.std.specs.Prelude.{◌≡◌, ◌<◌, ◌≤◌, ◌+◌, ℕ, true, length, max}
+use Rattle.mt_words.specs.declared.limits.TheConstants.{LONGEST_KEY}
+use Rattle.mt_words.specs.declared.record.Change.{Change}
+use Rattle.mt_words.specs.Limits.{widest}
+use Rattle.mt_words.specs.Changes.{AllowsKind}
 use Rattle.mt_record.specs.declared.read.TheConstants.{MOST_BYTES}
+use Rattle.mt_record.specs.Resuming.{greatest_timestamp}
 use Rattle.mt_writer.specs.declared.log_writer.TheConstants.{LONGEST_RECORD}
 use Rattle.mt_writer.specs.declared.writer_fault.WriterFault.{WriterFault}
 use Rattle.mt_writer.specs.declared.writer_fault.WriterFault.TheVariants as faults
@@ -11,10 +15,22 @@ use Rattle.mt_writer.specs.Journals.{Writer}
 abbrev pub HasEnded : Writer → ℕ → Type 0
 HasEnded w now = greatest_timestamp ≤ max w.last now
 
--- the fault is true, where the first three facts say that the log has ended, that a change has no version, and that it has no column
-abbrev pub IsRefused : Writer → (ended no_version no_column : Type 0) → WriterFault → Type 0
-IsRefused w ended no_version no_column faults.Ended = ended
-IsRefused w ended no_version no_column faults.Full = MOST_BYTES < w.size + LONGEST_RECORD
-IsRefused w ended no_version no_column faults.Version = no_version
-IsRefused w ended no_version no_column faults.Columns = no_column
-IsRefused w ended no_version no_column faults.Memory = Unit {0}
+-- the writer takes no record, by this fault, where the first fact says that the log has ended
+abbrev pub IsRefused : Writer → (ended : Type 0) → WriterFault → Type 0
+IsRefused w ended faults.Failed = w.failed ≡ true
+IsRefused w ended faults.Ended = ended
+IsRefused w ended faults.Full = MOST_BYTES < w.size + LONGEST_RECORD
+IsRefused w ended faults.Version = ⊥
+IsRefused w ended faults.Key = ⊥
+IsRefused w ended faults.Columns = ⊥
+IsRefused w ended faults.Memory = Unit {0}
+
+-- no log may have the change, by this fault
+abbrev pub IsUnlawful : Change → WriterFault → Type 0
+IsUnlawful change faults.Failed = ⊥
+IsUnlawful change faults.Ended = ⊥
+IsUnlawful change faults.Full = ⊥
+IsUnlawful change faults.Version = change.version ≡ 0
+IsUnlawful change faults.Key = LONGEST_KEY < length change.key
+IsUnlawful change faults.Columns = AllowsKind widest change.kind → ⊥
+IsUnlawful change faults.Memory = ⊥

@@ -1,17 +1,20 @@
 //! Writes logs so that nothing acknowledged is lost in a crash (docs/DURABILITY.md).
 //!
 //! A `NewLog` has the bytes of a file that is to be created. A `LogWriter` belongs to one worker and owns no file: it
-//! returns the bytes to be appended, and is told when they are synced. `least_reach` tells what may be acknowledged.
+//! returns the bytes to be appended, one write at a time, and is told when they are synced. `least_reach` tells what may
+//! be acknowledged.
 //!
 //! ```
 //! let new = NewLog::begin(alloc, 0, 1)?;
 //! // Write new.bytes() to a file under another name, sync it, rename it, and sync the folder.
 //! let mut log = new.created();
-//! let time = log.put(now, version, key, columns)?;
+//! let red = Given { number: 0, bytes: b"red" };
+//! let time = log.put(now, version, b"apple", &[red])?;
 //! log.mark(time + 1)?;
-//! buffer = log.take(buffer);
-//! // Append the buffer to the file, and sync it.
-//! log.synced();
+//! if let Some(bytes) = log.take(spare) {
+//!     // Append the bytes to the file, and sync it. If that fails, call log.failed().
+//!     log.synced();
+//! }
 //! if time < least_reach(&[log.reach(), other.reach()]) {
 //!     // The put may be acknowledged.
 //! }

@@ -1,18 +1,23 @@
 //! Writes a file of a log, as bytes to be appended and synced.
-ghost use Rattle.std.specs.Prelude.{◌≡◌, ◌↔◌, ◌<◌, ◌≤◌, ◌++◌, [], ℕ, List, max, IsSome, IfSome, IfOk, IfErr, OnOk, OnErr};
-ghost use Rattle.mt_words.specs.Changes.{Logged};
+ghost use Rattle.std.specs.Prelude.{◌≡◌, ◌↔◌, ◌⊎◌, ◌+◌, ◌<◌, ◌≤◌, ◌++◌, [], ℕ, ◌-◌, true, false, length, map, List, Err, max, IsSome, IfSome, IfNone, OnSome, IfOk, IfErr, OnOk, OnErr};
+ghost use Rattle.mt_words.specs.Changes.{Logged, IsLogged, IsLawfulChange, changed};
+ghost use Rattle.mt_words.specs.Limits.{widest};
 ghost use Rattle.mt_words.specs.Built.{mark_of, put_of, remove_of, erase_of};
+ghost use Rattle.mt_words.specs.declared.update.Kind.TheVariants as kinds;
+ghost use Rattle.mt_record.specs.Given.{column_of, kind_of, change_of};
 ghost use Rattle.mt_record.specs.Logs.{log_bytes};
 ghost use Rattle.mt_record.specs.LogFronts.{IsFrontOf};
 ghost use Rattle.mt_record.specs.Resuming.{greatest_timestamp};
 ghost use Rattle.mt_writer.specs.Files.{file_bytes};
 ghost use Rattle.mt_writer.specs.Journals.{Journal, Keeps, file_of, handed_out, holding, taking, syncing, read_back, MayGoOn, IsReached, IsSealed};
-ghost use Rattle.mt_writer.specs.Refusing.{HasEnded, IsRefused};
+ghost use Rattle.mt_writer.specs.Refusing.{HasEnded, IsRefused, IsUnlawful};
 ghost use Rattle.mt_writer.specs.declared.writer_fault.WriterFault.TheVariants as faults;
 
 use crate::writer_fault::WriterFault;
-use mt_record::{LogFront, MOST_BYTES, Rest, Segment, encode_record};
-use mt_words::{Columns, Format, Key, Numbers, Record};
+use mt_record::{
+    Given, GivenChange, GivenKind, LogFront, MOST_BYTES, Rest, Segment, encode_given, encode_record,
+};
+use mt_words::{Format, LONGEST_KEY, Record};
 use std::alloc::Global;
 use std::marker::Model;
 use std::mem;
@@ -39,14 +44,15 @@ pub struct LogWriter {
     pub(crate) synced_size: u64,
     /// The segment that the file is, if it is one.
     pub(crate) segment: Option<Segment>,
+    /// Whether a write or a sync failed.
+    pub(crate) failed: bool,
 }
 
-/// A segment that is synced whole and takes no more records.
-#[derive(Clone, Copy, Debug)]
+/// A segment that is synced whole and takes no more records. One segment follows it.
+#[derive(Debug, Drop)]
 pub struct Sealed {
-    /// The last timestamp of the segment.
-    pub last: u64,
-    pub segment: Segment,
+    last: u64,
+    segment: Segment,
 }
 
 impl Model for LogWriter {
@@ -65,6 +71,7 @@ impl Model for LogWriter {
       taken_size = w.taken_size;
       synced_size = w.synced_size;
       segment = w.segment;
+      failed = w.failed;
     } };
 
     ghost invariant = { λ w. w.size ≤ MOST_BYTES };
@@ -93,6 +100,7 @@ impl LogWriter {
             taken_size: front.bytes,
             synced_size: front.bytes,
             segment: front.head.segment,
+            failed: false,
         })
     }
 
@@ -102,111 +110,128 @@ impl LogWriter {
         &mut self,
         now: u64,
         version: u64,
-        key: Key,
-        columns: Columns,
+        key: &[u8],
+        columns: &[Given<'_>],
     ) -> Result<u64, WriterFault>
-        ensures ok { (j : Journal) → Keeps self.old j → IfOk result (λ time. Keeps self.new (holding j (put_of time version key columns))) }
+        ensures ok { (j : Journal) → Keeps self.old j → IfOk result (λ time. Keeps self.new (holding j (put_of time version key.now (map column_of columns.now)))) }
         ensures time { IfOk result (λ time. time ≡ max self.old.last now) }
+        ensures same { OnOk result (self.new.failed ≡ self.old.failed) }
         ensures err { OnErr result (self.new ≡ self.old) }
-        ensures fault { IfErr result (IsRefused self.old (HasEnded self.old now) (version ≡ 0) (columns ≡ [])) }
+        ensures failed { self.old.failed ≡ true → result ≡ Err faults.Failed }
+        ensures fault { IfErr result (λ fault. IsRefused self.old (HasEnded self.old now) fault ⊎ IsUnlawful (record { version = version; key = key.now; kind = kinds.Put (map column_of columns.now) }) fault) }
     {
-        let time = self.time(now)?;
-        if version == 0 {
-            return Err(WriterFault::Version);
-        }
-        let Some(put) = Record::put(time, version, key, columns) else {
-            return Err(WriterFault::Columns);
-        };
-        self.append(&put)?;
-        Ok(time)
+        let kind = GivenKind::Put(columns);
+        self.change(now, GivenChange { version, key, kind })
     }
 
     /// Appends a remove of the key, and returns its timestamp, as `put` does.
-    pub fn remove(&mut self, now: u64, version: u64, key: Key) -> Result<u64, WriterFault>
-        ensures ok { (j : Journal) → Keeps self.old j → IfOk result (λ time. Keeps self.new (holding j (remove_of time version key))) }
+    pub fn remove(&mut self, now: u64, version: u64, key: &[u8]) -> Result<u64, WriterFault>
+        ensures ok { (j : Journal) → Keeps self.old j → IfOk result (λ time. Keeps self.new (holding j (remove_of time version key.now))) }
         ensures time { IfOk result (λ time. time ≡ max self.old.last now) }
+        ensures same { OnOk result (self.new.failed ≡ self.old.failed) }
         ensures err { OnErr result (self.new ≡ self.old) }
-        ensures fault { IfErr result (IsRefused self.old (HasEnded self.old now) (version ≡ 0) ⊥) }
+        ensures failed { self.old.failed ≡ true → result ≡ Err faults.Failed }
+        ensures fault { IfErr result (λ fault. IsRefused self.old (HasEnded self.old now) fault ⊎ IsUnlawful (record { version = version; key = key.now; kind = kinds.Remove }) fault) }
     {
-        let time = self.time(now)?;
-        let Some(remove) = Record::remove(time, version, key) else {
-            return Err(WriterFault::Version);
-        };
-        self.append(&remove)?;
-        Ok(time)
+        let kind = GivenKind::Remove;
+        self.change(now, GivenChange { version, key, kind })
     }
 
-    /// Appends an erase of these columns, and returns its timestamp, as `put` does.
+    /// Appends an erase of the columns with these numbers, and returns its timestamp, as `put` does.
     pub fn erase(
         &mut self,
         now: u64,
         version: u64,
-        key: Key,
-        numbers: Numbers,
+        key: &[u8],
+        numbers: &[u8],
     ) -> Result<u64, WriterFault>
-        ensures ok { (j : Journal) → Keeps self.old j → IfOk result (λ time. Keeps self.new (holding j (erase_of time version key numbers))) }
+        ensures ok { (j : Journal) → Keeps self.old j → IfOk result (λ time. Keeps self.new (holding j (erase_of time version key.now numbers.now))) }
         ensures time { IfOk result (λ time. time ≡ max self.old.last now) }
+        ensures same { OnOk result (self.new.failed ≡ self.old.failed) }
         ensures err { OnErr result (self.new ≡ self.old) }
-        ensures fault { IfErr result (IsRefused self.old (HasEnded self.old now) (version ≡ 0) ⊥) }
+        ensures failed { self.old.failed ≡ true → result ≡ Err faults.Failed }
+        ensures fault { IfErr result (λ fault. IsRefused self.old (HasEnded self.old now) fault ⊎ IsUnlawful (record { version = version; key = key.now; kind = kinds.Erase numbers.now }) fault) }
     {
-        let time = self.time(now)?;
-        let Some(erase) = Record::erase(time, version, key, numbers) else {
-            return Err(WriterFault::Version);
-        };
-        self.append(&erase)?;
-        Ok(time)
+        let kind = GivenKind::Erase(numbers);
+        self.change(now, GivenChange { version, key, kind })
     }
 
     /// Appends a mark, and returns its timestamp, as `put` does.
     pub fn mark(&mut self, now: u64) -> Result<u64, WriterFault>
         ensures ok { (j : Journal) → Keeps self.old j → IfOk result (λ time. Keeps self.new (holding j (mark_of time))) }
         ensures time { IfOk result (λ time. time ≡ max self.old.last now) }
+        ensures same { OnOk result (self.new.failed ≡ self.old.failed) }
         ensures err { OnErr result (self.new ≡ self.old) }
-        ensures fault { IfErr result (IsRefused self.old (HasEnded self.old now) ⊥ ⊥) }
+        ensures failed { self.old.failed ≡ true → result ≡ Err faults.Failed }
+        ensures fault { IfErr result (IsRefused self.old (HasEnded self.old now)) }
     {
         let time = self.time(now)?;
-        self.append(&Record::mark(time))?;
+        self.append_mark(time)?;
         Ok(time)
     }
 
     /// Appends the mark that ends the log. From then on the log takes no record. Err: nothing is appended.
     pub fn end(&mut self) -> Result<(), WriterFault>
         ensures ok { (j : Journal) → Keeps self.old j → OnOk result (Keeps self.new (holding j (mark_of greatest_timestamp))) }
+        ensures same { OnOk result (self.new.failed ≡ self.old.failed) }
         ensures err { OnErr result (self.new ≡ self.old) }
-        ensures fault { IfErr result (IsRefused self.old ⊥ ⊥ ⊥) }
+        ensures failed { self.old.failed ≡ true → result ≡ Err faults.Failed }
+        ensures fault { IfErr result (IsRefused self.old ⊥) }
     {
         // This load shows the proof that no timestamp is greater.
         let _last = self.last;
-        self.append(&Record::mark(u64::MAX))
+        self.append_mark(u64::MAX)
     }
 
-    /// Takes the bytes to be appended to the file. The writer goes on with `spare`, emptied.
-    pub fn take(&mut self, mut spare: Vec<u8>) -> Vec<u8>
-        ensures writer { (j : Journal) → Keeps self.old j → Keeps self.new (taking j) }
-        ensures bytes { (j : Journal) → Keeps self.old j → log_bytes j.head (handed_out j) ++ result.items ≡ file_bytes (file_of j) }
+    /// Takes the bytes to be appended to the file, as one write. The writer goes on with `spare`, emptied. None: the write
+    /// before it is not noted as synced, or one failed. So a crash leaves at most one write torn.
+    pub fn take(&mut self, mut spare: Vec<u8>) -> Option<Vec<u8>>
+        ensures accepted { (j : Journal) → Keeps self.old j → IsSome result ↔ ((self.old.failed ≡ false) × (j.taken ≡ [])) }
+        ensures writer { (j : Journal) → Keeps self.old j → OnSome result (Keeps self.new (taking j)) }
+        ensures bytes { (j : Journal) → Keeps self.old j → IfSome result (λ bytes. log_bytes j.head (handed_out j) ++ bytes.items ≡ file_bytes (file_of j)) }
+        ensures same { self.new.failed ≡ self.old.failed }
+        ensures none { IfNone result (self.new ≡ self.old) }
     {
+        if self.failed || self.taken_size != self.synced_size {
+            return None;
+        }
         spare.clear();
         self.taken = self.last;
         self.taken_size = self.size;
-        mem::replace(&mut self.buffer, spare)
+        Some(mem::replace(&mut self.buffer, spare))
     }
 
-    /// Notes that the file has all bytes that were taken, and was synced since. If a sync failed, no later one counts: the
-    /// writer is dropped.
+    /// Notes that the file has all bytes that were taken, and was synced since. After a failure this does nothing.
     pub fn synced(&mut self)
-        ensures { (j : Journal) → Keeps self.old j → Keeps self.new (syncing j) }
+        ensures synced { (j : Journal) → Keeps self.old j → self.old.failed ≡ false → Keeps self.new (syncing j) }
+        ensures same { self.new.failed ≡ self.old.failed }
+        ensures failed { self.old.failed ≡ true → self.new ≡ self.old }
     {
+        if self.failed {
+            // No later sync tells what became of the bytes of a failed one.
+            return;
+        }
         self.reach = self.taken;
         self.synced_size = self.taken_size;
     }
 
+    /// Notes that a write or a sync failed. From then on the writer is as it is: it takes no record, hands out no bytes,
+    /// and its reach stays.
+    pub fn failed(&mut self)
+        ensures value { self.new ≡ record self.old { failed = true } }
+        ensures kept { (j : Journal) → Keeps self.old j → Keeps self.new j }
+    {
+        self.failed = true;
+    }
+
     /// Seals this segment, so that the next one may begin. Err: the writer as it was, if its file is no segment or is
-    /// not synced whole.
+    /// not synced whole, or if a write or a sync failed.
     pub fn seal(self) -> Result<Sealed, LogWriter>
         ensures ok { (j : Journal) → Keeps self j → IfOk result (λ sealed. IsSealed sealed.last sealed.segment.worker sealed.segment.number j) }
+        ensures failed { OnOk result (self.failed ≡ false) }
         ensures err { IfErr result (λ same. same ≡ self) }
     {
-        if self.synced_size != self.size {
+        if self.failed || self.synced_size != self.size {
             return Err(self);
         }
         let Some(segment) = self.segment else {
@@ -226,11 +251,48 @@ impl LogWriter {
         self.reach
     }
 
-    /// Returns the timestamp of a record that is appended now. Err: the log has ended.
+    /// Appends this change, and returns its timestamp, as `put` does.
+    fn change(&mut self, now: u64, given: GivenChange<'_>) -> Result<u64, WriterFault>
+        requires { IsLogged (kind_of given.kind) }
+        ensures ok { (j : Journal) → Keeps self.old j → IfOk result (λ time. Keeps self.new (holding j (changed time (change_of given.entry)))) }
+        ensures time { IfOk result (λ time. time ≡ max self.old.last now) }
+        ensures same { OnOk result (self.new.failed ≡ self.old.failed) }
+        ensures err { OnErr result (self.new ≡ self.old) }
+        ensures failed { self.old.failed ≡ true → result ≡ Err faults.Failed }
+        ensures fault { IfErr result (λ fault. IsRefused self.old (HasEnded self.old now) fault ⊎ IsUnlawful (change_of given.entry) fault) }
+    {
+        let time = self.time(now)?;
+        allow(given)?;
+        let before = self.buffer.len();
+        encode_given(time, given, &mut self.buffer)?;
+        self.note(time, before);
+        Ok(time)
+    }
+
+    /// Appends a mark at this timestamp, which is not below the last one. Err: nothing is appended.
+    fn append_mark(&mut self, time: u64) -> Result<(), WriterFault>
+        requires { self.old.last ≤ time }
+        ensures ok { (j : Journal) → Keeps self.old j → OnOk result (Keeps self.new (holding j (mark_of time))) }
+        ensures same { OnOk result (self.new.failed ≡ self.old.failed) }
+        ensures err { OnErr result (self.new ≡ self.old) }
+        ensures failed { self.old.failed ≡ true → result ≡ Err faults.Failed }
+        ensures fault { IfErr result (IsRefused self.old ⊥) }
+    {
+        self.admit()?;
+        let before = self.buffer.len();
+        encode_record(&Record::mark(time), &mut self.buffer)?;
+        self.note(time, before);
+        Ok(())
+    }
+
+    /// Returns the timestamp of a record that is appended now. Err: no record may be appended.
     fn time(&self, now: u64) -> Result<u64, WriterFault>
         ensures ok { IfOk result (λ time. (time ≡ max self.now.last now) × (time < greatest_timestamp)) }
-        ensures fault { IfErr result (λ fault. (fault ≡ faults.Ended) × HasEnded self.now now) }
+        ensures room { OnOk result (self.now.size + LONGEST_RECORD ≤ MOST_BYTES) }
+        ensures failed { self.now.failed ≡ true → result ≡ Err faults.Failed }
+        ensures fault { IfErr result (IsRefused self.now (HasEnded self.now now)) }
     {
+        self.admit()?;
         let time = self.last.max(now);
         if time == u64::MAX {
             // Recovery takes a mark at this timestamp for the end of the log.
@@ -239,21 +301,62 @@ impl LogWriter {
         Ok(time)
     }
 
-    /// Appends a record whose timestamp is not below the last one. Err: nothing is appended.
-    fn append(&mut self, record: &Record) -> Result<(), WriterFault>
-        requires { self.old.last ≤ «record».now.timestamp }
-        ensures ok { (j : Journal) → Keeps self.old j → OnOk result (Keeps self.new (holding j «record».now)) }
-        ensures err { OnErr result (self.new ≡ self.old) }
-        ensures fault { IfErr result (IsRefused self.old ⊥ ⊥ ⊥) }
+    /// Returns whether any record may be appended. Err: `Failed` or `Full`.
+    fn admit(&self) -> Result<(), WriterFault>
+        ensures room { OnOk result (self.now.size + LONGEST_RECORD ≤ MOST_BYTES) }
+        ensures failed { self.now.failed ≡ true → result ≡ Err faults.Failed }
+        ensures fault { IfErr result (IsRefused self.now ⊥) }
     {
+        if self.failed {
+            return Err(WriterFault::Failed);
+        }
         if self.size > MOST_BYTES - LONGEST_RECORD {
             // Recovery refuses a file of more than MOST_BYTES.
             return Err(WriterFault::Full);
         }
-        let before = self.buffer.len();
-        encode_record(record, &mut self.buffer)?;
-        self.size += (self.buffer.len() - before) as u64;
-        self.last = record.timestamp();
         Ok(())
     }
+
+    /// Notes the record at this timestamp that was appended to the first `before` bytes of the buffer.
+    fn note(&mut self, time: u64, before: usize)
+        requires grown { before ≤ length self.old.buffer }
+        requires room { self.old.size + length self.old.buffer ≤ MOST_BYTES + before }
+        ensures { self.new ≡ record self.old { last = time; size = self.old.size + (length self.old.buffer - before) } }
+    {
+        self.size += (self.buffer.len() - before) as u64;
+        self.last = time;
+    }
+}
+
+impl Sealed {
+    /// Returns the last timestamp of the segment.
+    pub fn last(&self) -> u64
+        ensures { result ≡ self.now.last }
+    {
+        self.last
+    }
+
+    /// Returns which segment it is.
+    pub fn segment(&self) -> Segment
+        ensures { result ≡ self.now.segment }
+    {
+        self.segment
+    }
+}
+
+/// Checks that a log of format 2 may have this change. Err: `Version`, `Key` or `Columns`.
+fn allow(given: GivenChange<'_>) -> Result<(), WriterFault>
+    ensures ok { OnOk result (IsLawfulChange widest (change_of given.entry)) }
+    ensures fault { IfErr result (IsUnlawful (change_of given.entry)) }
+{
+    if given.version == 0 {
+        return Err(WriterFault::Version);
+    }
+    if given.key.len() > LONGEST_KEY {
+        return Err(WriterFault::Key);
+    }
+    if !given.kind.fits(Format::Two) {
+        return Err(WriterFault::Columns);
+    }
+    Ok(())
 }

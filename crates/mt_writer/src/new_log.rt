@@ -72,18 +72,23 @@ impl NewLog {
         })
     }
 
-    /// Begins the segment after this one, with a mark at `mark`, or at the last timestamp of the sealed one if that is
-    /// greater. Err: `Full` if no number is left, or out of memory.
-    pub fn next(alloc: Global, sealed: Sealed, mark: u64) -> Result<NewLog, WriterFault>
+    /// Begins the segment after this one, with a mark at its last timestamp. So it reaches no further than the sealed one,
+    /// and a crash may lose its name. Err: the sealed one, and `Full` if no number is left, or `Memory`.
+    pub fn next(alloc: Global, sealed: Sealed) -> Result<NewLog, (WriterFault, Sealed)>
         ensures begins { IfOk result (λ new. Begins new (segment_head sealed.last sealed.segment.worker (sealed.segment.number + 1))) }
-        ensures mark { IfOk result (λ new. new.mark ≡ max sealed.last mark) }
-        ensures fault { IfErr result (λ fault. (fault ≡ faults.Memory) ⊎ (fault ≡ faults.Full) × (sealed.segment.number + 1 ≡ 2 ^ 32)) }
+        ensures mark { IfOk result (λ new. new.mark ≡ sealed.last) }
+        ensures fault { IfErr result (λ err. (err.0 ≡ faults.Memory) ⊎ (err.0 ≡ faults.Full) × (sealed.segment.number + 1 ≡ 2 ^ 32)) }
+        ensures err { IfErr result (λ err. err.1 ≡ sealed) }
     {
-        let Some(number) = sealed.segment.number.checked_add(1) else {
-            return Err(WriterFault::Full);
+        let last = sealed.last();
+        let Segment { worker, number } = sealed.segment();
+        let Some(number) = number.checked_add(1) else {
+            return Err((WriterFault::Full, sealed));
         };
-        let next = NewLog::segment(alloc, sealed.last, sealed.segment.worker, number, mark)?;
-        Ok(next)
+        match NewLog::segment(alloc, last, worker, number, last) {
+            Ok(new) => Ok(new),
+            Err(memory) => Err((WriterFault::from(memory), sealed)),
+        }
     }
 
     /// Returns the bytes of the file. They are written under another name and synced, the file is renamed, and the
@@ -110,6 +115,7 @@ impl NewLog {
             taken_size: size,
             synced_size: size,
             segment: self.segment,
+            failed: false,
         }
     }
 }

@@ -1,22 +1,14 @@
 //! Tests of what no contract says: that a log takes records, and is sealed.
 use crate::{LogWriter, NewLog, WriterFault};
-use mt_record::{Rest, read_log};
-use mt_words::{Columns, Key, Memory};
-use std::alloc::Global;
-use std::process::Abort;
-
-/// Returns the key `k`.
-fn key(alloc: Global) -> Result<Key, WriterFault> {
-    let bytes = Vec::from_slice(alloc, b"k").map_err(Memory::from)?;
-    Key::new(bytes).ok_or(WriterFault::Full)
-}
+use mt_record::{Given, Rest, read_log};
 
 /// Puts one column under `k`, and returns the timestamp.
-fn put(alloc: Global, log: &mut LogWriter, now: u64, version: u64) -> Result<u64, WriterFault> {
-    let mut columns = Columns::new(alloc);
-    let red = Vec::from_slice(alloc, b"red").map_err(Memory::from)?;
-    let _ = columns.push(0, red);
-    log.put(now, version, key(alloc)?, columns)
+fn put(log: &mut LogWriter, now: u64, version: u64) -> Result<u64, WriterFault> {
+    let red = Given {
+        number: 0,
+        bytes: b"red",
+    };
+    log.put(now, version, b"k", &[red])
 }
 
 #[test]
@@ -26,10 +18,10 @@ fn what_is_written_is_read(rt: HostRuntime) {
     let mut file = Vec::new(alloc);
     file.extend_from_slice(new.bytes()).expect(&rt, "memory");
     let mut log = new.created();
-    assert_eq!(&rt; put(alloc, &mut log, 7, 7), Ok(7));
-    assert_eq!(&rt; put(alloc, &mut log, 6, 8), Ok(7));
+    assert_eq!(&rt; put(&mut log, 7, 7), Ok(7));
+    assert_eq!(&rt; put(&mut log, 6, 8), Ok(7));
     assert_eq!(&rt; log.mark(9), Ok(9));
-    let bytes = log.take(Vec::new(alloc));
+    let bytes = log.take(Vec::new(alloc)).expect(&rt, "bytes");
     file.extend_from_slice(&bytes).expect(&rt, "memory");
     let text = read_log(alloc, &file).expect(&rt, "a log");
     assert_eq!(&rt; text.front.count, 4);

@@ -8,6 +8,9 @@ use thiserror::Error;
 /// Why a log takes no record, or has no next segment.
 #[derive(Clone, Copy, Debug, PartialEq, Eq, Error)]
 pub enum WriterFault {
+    /// A write or a sync failed.
+    #[error("a write failed")]
+    Failed,
     /// The log was ended, or the clock stands at the greatest timestamp.
     #[error("the log has ended")]
     Ended,
@@ -17,8 +20,11 @@ pub enum WriterFault {
     /// The version is 0.
     #[error("version 0")]
     Version,
-    /// There is no column.
-    #[error("no column")]
+    /// The key is too long.
+    #[error("the key is too long")]
+    Key,
+    /// There is no column, a number is too great or not above the one before it, or a value is too long.
+    #[error("columns")]
     Columns,
     /// Out of memory.
     #[error("no memory")]
