@@ -1,4 +1,4 @@
-//! Tests of what no contract says: that a log takes records, and is sealed.
+//! Tests of what no contract says: that a log takes records and hands them out, and is sealed and followed.
 use crate::{LogWriter, NewLog, WriterFault};
 use mt_record::{Given, Rest, read_log};
 
@@ -20,24 +20,29 @@ fn what_is_written_is_read(rt: HostRuntime) {
     let mut log = new.created();
     assert_eq!(&rt; put(&mut log, 7, 7), Ok(7));
     assert_eq!(&rt; put(&mut log, 6, 8), Ok(7));
+    assert_eq!(&rt; log.erase(8, 9, b"k", &[0]), Ok(8));
+    assert_eq!(&rt; log.remove(8, 10, b"k"), Ok(8));
     assert_eq!(&rt; log.mark(9), Ok(9));
     let bytes = log.take(Vec::new(alloc)).expect(&rt, "bytes");
     file.extend_from_slice(&bytes).expect(&rt, "memory");
     let text = read_log(alloc, &file).expect(&rt, "a log");
-    assert_eq!(&rt; text.front.count, 4);
+    assert_eq!(&rt; text.front.count, 6);
     assert_eq!(&rt; text.front.latest, 9);
     assert!(&rt; text.front.rest == Rest::Nothing);
 }
 
 #[test]
-fn a_segment_is_sealed_after_a_sync(rt: HostRuntime) {
+fn a_segment_follows_a_sealed_one(rt: HostRuntime) {
     let alloc = rt.alloc();
     let new = NewLog::segment(alloc, 0, 3, 0, 5).expect(&rt, "memory");
     let mut log = new.created();
     assert_eq!(&rt; log.mark(6), Ok(6));
     let _ = log.take(Vec::new(alloc));
     log.synced();
-    assert!(&rt; log.seal().is_ok());
+    let Ok(sealed) = log.seal() else {
+        panic!(&rt; "a sealed segment");
+    };
+    assert!(&rt; NewLog::next(alloc, sealed).is_ok());
 }
 
 #[test]
