@@ -1,7 +1,6 @@
 mod Adds
 pub mod Dumps
 mod Ends
-mod Follows
 mod JobLemmas
 mod Lasts
 pub mod Pairs

@@ -3,7 +3,6 @@ pub mod Buffers
 pub mod Filling
 pub mod Flat
 pub mod Formats
-pub mod Given
 pub mod Owning
 pub mod Holding
 pub mod Jobs

@@ -11,8 +11,6 @@
 
 mod bare;
 mod buffer;
-mod changes;
-mod columns;
 mod dumping;
 mod fault;
 mod feeding;

@@ -1,20 +1,20 @@
 //! Parts of checkpoints: headers, entries and footers.
 ghost use Rattle.std.specs.Prelude.{◌≡◌, ◌≢◌, ◌∷◌, [], map, IsSome, IfSome};
 ghost use Rattle.mt_words.specs.Built.{entry_of};
+ghost use Rattle.mt_record.specs.Given.{column_of};
 ghost use Rattle.mt_record.specs.Parts.{part_head, part_head_bytes, entry_spelling, footer_bytes};
 ghost use Rattle.mt_c.specs.declared.status.TheConstants.{DONE, MEMORY, WRONG, SHORT};
-ghost use Rattle.mt_c.specs.Given.{column_of};
 ghost use Rattle.mt_c.specs.Buffers.{Writes};
 ghost use Rattle.mt_c.specs.Formats.{format_of, FitsPart};
 ghost use Rattle.mt_c.specs.Statuses.{IsOneOf, IsRefusedUnless};
 
 use crate::buffer::write_bytes;
-use crate::changes::{GivenChange, GivenKind};
-use crate::columns::Given;
 use crate::formats::format_of;
 use crate::status::{MEMORY, WRONG};
-use mt_record::{PartHead, encode_entry, encode_part_footer, encode_part_header};
-use mt_words::Entry;
+use mt_record::{
+    Given, GivenChange, GivenKind, PartHead, encode_given_entry, encode_part_footer,
+    encode_part_header,
+};
 use std::alloc::Global;
 
 /// Writes the header of a part of this format to the beginning of `out`, and its length to `count`. It is part `part` of
@@ -81,8 +81,9 @@ pub extern "C" fn mtr_entry(
     if !entry.fits(format) {
         return WRONG;
     }
-    match entry.copy(alloc) {
-        Ok(change) => write_entry(alloc, &Entry::of_change(change), out, count),
+    let mut bytes = Vec::new(alloc);
+    match encode_given_entry(entry, &mut bytes) {
+        Ok(()) => write_bytes(&bytes, out, count),
         Err(_) => MEMORY,
     }
 }
@@ -102,19 +103,6 @@ pub extern "C" fn mtr_part_footer(
 {
     let mut bytes = Vec::new(alloc);
     match encode_part_footer(end, entries, &mut bytes) {
-        Ok(()) => write_bytes(&bytes, out, count),
-        Err(_) => MEMORY,
-    }
-}
-
-/// Writes the entry to the beginning of `out`, and its length to `count`.
-fn write_entry(alloc: Global, entry: &Entry, out: &mut [u8], count: &mut usize) -> u32
-    ensures written { Writes (entry_spelling entry.now) out.old out.new count.new result }
-    ensures certain { IsOneOf (DONE ∷ MEMORY ∷ SHORT ∷ []) result }
-    ensures untold { result ≢ DONE → result ≢ SHORT → count.new ≡ count.old }
-{
-    let mut bytes = Vec::new(alloc);
-    match encode_entry(entry, &mut bytes) {
         Ok(()) => write_bytes(&bytes, out, count),
         Err(_) => MEMORY,
     }

@@ -2,19 +2,17 @@
 ghost use Rattle.std.specs.Prelude.{◌≡◌, ◌≢◌, ◌∷◌, [], map};
 ghost use Rattle.mt_words.specs.Changes.{changed, IsLogged};
 ghost use Rattle.mt_words.specs.Built.{mark_of, put_of, remove_of, erase_of};
+ghost use Rattle.mt_record.specs.Given.{column_of, kind_of, change_of};
 ghost use Rattle.mt_record.specs.Spelling.{spelling};
 ghost use Rattle.mt_c.specs.declared.status.TheConstants.{DONE, MEMORY, WRONG, SHORT};
-ghost use Rattle.mt_c.specs.Given.{column_of, kind_of, change_of};
 ghost use Rattle.mt_c.specs.Buffers.{Writes};
 ghost use Rattle.mt_c.specs.Formats.{FitsLog};
 ghost use Rattle.mt_c.specs.Statuses.{IsOneOf, IsRefusedUnless};
 
 use crate::buffer::write_bytes;
-use crate::changes::{GivenChange, GivenKind};
-use crate::columns::Given;
 use crate::formats::records_of;
 use crate::status::{MEMORY, WRONG};
-use mt_record::encode_record;
+use mt_record::{Given, GivenChange, GivenKind, encode_given, encode_record};
 use mt_words::Record;
 use std::alloc::Global;
 
@@ -24,7 +22,11 @@ pub extern "C" fn mtr_mark(alloc: Global, time: u64, out: &mut [u8], count: &mut
     ensures written { Writes (spelling (mark_of time)) out.old out.new count.new result }
     ensures certain { IsOneOf (DONE ∷ MEMORY ∷ SHORT ∷ []) result }
 {
-    write_record(alloc, &Record::mark(time), out, count)
+    let mut bytes = Vec::new(alloc);
+    match encode_record(&Record::mark(time), &mut bytes) {
+        Ok(()) => write_bytes(&bytes, out, count),
+        Err(_) => MEMORY,
+    }
 }
 
 /// Writes a put of these columns of the key to the beginning of `out`, and its length to `count`. `WRONG`: there is no
@@ -126,20 +128,8 @@ fn write_change(
     if !given.fits(format) {
         return WRONG;
     }
-    match given.copy(alloc) {
-        Ok(change) => write_record(alloc, &Record::of_change(time, change), out, count),
-        Err(_) => MEMORY,
-    }
-}
-
-/// Writes the record to the beginning of `out`, and its length to `count`.
-fn write_record(alloc: Global, record: &Record, out: &mut [u8], count: &mut usize) -> u32
-    ensures written { Writes (spelling «record».now) out.old out.new count.new result }
-    ensures certain { IsOneOf (DONE ∷ MEMORY ∷ SHORT ∷ []) result }
-    ensures untold { result ≢ DONE → result ≢ SHORT → count.new ≡ count.old }
-{
     let mut bytes = Vec::new(alloc);
-    match encode_record(record, &mut bytes) {
+    match encode_given(time, given, &mut bytes) {
         Ok(()) => write_bytes(&bytes, out, count),
         Err(_) => MEMORY,
     }
