@@ -5,7 +5,7 @@ use Rattle.std.specs.List.{AllZip, flat_map}
 use Rattle.std.proofs.lemmas.Bool.{cases_lt}
 use Rattle.std.proofs.lemmas.List.{append-nil}
 use Rattle.std.proofs.lemmas.List.Concat.{flat_map-append}
-use Rattle.std.proofs.lemmas.List.Elements.{Contains-append_left, Contains-append_right, Contains-append_cases, Contains-push_cases}
+use Rattle.std.proofs.lemmas.List.Elements.{Contains-append_left, Contains-append_right, Contains-append_cases}
 use Rattle.mt_words.specs.declared.limits.Format.TheVariants.{Two}
 use Rattle.mt_words.specs.declared.record.Change.{Change}
 use Rattle.mt_words.specs.declared.update.Origin.{Origin}
@@ -17,7 +17,6 @@ use Rattle.mt_words.specs.Limits.{limits_of, widest}
 use Rattle.mt_words.specs.Updates.{update_at, update_of, updates_from}
 use Rattle.mt_words.proofs.Elements.{no_element, head_or_tail, head_in, tail_in}
 use Rattle.mt_record.specs.declared.feed.head.Head.{Head}
-use Rattle.mt_record.specs.declared.feed.head.Segment.{Segment}
 use Rattle.mt_record.specs.Encoding.{head_of}
 use Rattle.mt_record.specs.Heads.{head_bytes}
 use Rattle.mt_record.specs.Logs.{AreRecords, latest, LogReading, IsReading}
@@ -25,36 +24,23 @@ use Rattle.mt_record.specs.Resuming.{greatest_timestamp}
 use Rattle.mt_record.specs.Spelling.{spelling}
 use Rattle.mt_record.proofs.Records.{records_push}
 use Rattle.mt_scan.specs.Choice.{CheckpointReading}
-use Rattle.mt_scan.specs.Segments.{IsEarlier, IsJustBefore, IsSame, HasFile, IsDoubled, HasGap, IsGap}
+use Rattle.mt_scan.specs.Segments.{IsEarlier}
 use Rattle.mt_replay.specs.Survivors.{all_updates}
 use Rattle.mt_replay.proofs.Members.{of_map, in_map}
 use Rattle.mt_recover.specs.Recovery.{begin_of}
 use Rattle.mt_writer.specs.Files.{OpenFile, file_bytes, file_reading, HasSynced, IsOpenFile, IsWritten, IsSynced}
 use Rattle.mt_writer.proofs.JournalLemmas.{whole_reading}
 use Rattle.mt_laws.specs.Lives.{IsBehind, AreOpen, IsSyncedAbove, AllSyncedAbove, LogOf, there, deleted, those_there, IsStill, as_written, records_in, history_of, updates_in, Checkpoints, IsNewOver, MayComeNext, running, write, sync, add_file, acknowledge, Life, then}
-use Rattle.mt_laws.specs.Writing.{IsAloneFrom}
-use Rattle.mt_laws.proofs.LeftFiles.{none_at, says_less, earlier_or_not, later_or_last}
+use Rattle.mt_laws.proofs.LeftFiles.{says_less, earlier_or_not, later_or_last}
 use Rattle.mt_laws.proofs.ResumedLogs.{ClaimsNoMore, once_stays, gaps_stay}
 use Rattle.mt_laws.proofs.Paired.{partner, partner_of, zip_weaker, zip_map, zip_through}
 use Rattle.mt_laws.proofs.KeptLogs.{zip_there, still_weaker, there_append, HasSame, same_history}
 use Rattle.mt_laws.proofs.Living.{all_of_it, above_added, life_holds}
 use Rattle.mt_laws.proofs.SomeLife.{only_one}
-use Rattle.mt_laws.proofs.Doubled.{AreApart, apart_of, once_of, none_of}
+use Rattle.mt_laws.proofs.Successors.{earlier_too, not_earlier}
+use Rattle.mt_laws.proofs.Added.{MayBeAdded, opens_with, not_alone, fresh_added}
 
 -- ---- the last file of a log
-
-earlier_too : (a b c : Option Segment) → IsEarlier a b → IsEarlier b c → IsEarlier a c
-earlier_too (Some a) (Some b) (Some c) first next =
-    let less : a.number < b.number = first.1 in
-    let more : b.number < c.number = next.1 in
-    (first.0 ∙ next.0, omega (arith, less, more))
-earlier_too (Some a) (Some b) None first next = absurd next
-earlier_too (Some a) None c first next = absurd first
-earlier_too None b c first next = absurd first
-
-not_earlier : (a : Option Segment) → IsEarlier a a → ⊥
-not_earlier (Some a) is = let less : a.number < a.number = is.1 in omega (arith, less)
-not_earlier None is = is
 
 -- the file, or one of these that is later in its log; none of these is later still
 record IsLastIn (files : List OpenFile) (file last : OpenFile) : Type 0 where
@@ -346,100 +332,12 @@ new_synced time change fits lawful P holds = record {
   holds = holds;
 }
 
-new_alone : (begin time : ℕ) (change : Change) → time < greatest_timestamp → IsLoggedChange widest change → IsAloneFrom begin (new_file time change)
-new_alone begin time change fits lawful = record {
-  is_open = record {
-    is_reading = new_reading time change fits lawful;
-    synced = all_of_it (new_file time change) (new_reading time change fits lawful);
-    claim = new_synced time change fits lawful (λ r. 0 ≤ r.timestamp) (omega arith);
-  };
-  alone = refl;
-  from = omega arith;
-}
-
--- nothing is earlier than a file that is no segment, nor the same
-pub none_earlier : (a : Option Segment) → IsEarlier a None → ⊥
-none_earlier (Some a) is = is
-none_earlier None is = is
-
-none_same : (a : Option Segment) → IsSame None a → ⊥
-none_same a is = is
-
-apart_push : (fs : List LogReading) (new : LogReading) → new.head.segment ≡ None → AreApart fs → AreApart (fs ++ new ∷ [])
-apart_push [] new alone apart = (λ x none. absurd (no_element x none), tt)
-apart_push (f ∷ fs) new alone apart = (
-  λ x at same. elim (Contains-push_cases fs new x at) as (λ _. ⊥) [
-    | inl old ↦ apart.0 x old same
-    | inr e ↦ none_same f.head.segment (subst (λ (s : Option Segment). IsSame s f.head.segment) (ap (λ (l : LogReading). l.head.segment) (sym e) ∙ alone) same)
-  ],
-  apart_push fs new alone apart.1,
-)
-
-map_push : (files : List OpenFile) (file : OpenFile) → map file_reading (files ++ file ∷ []) ≡ map file_reading files ++ file_reading file ∷ []
-map_push [] file = refl
-map_push (f ∷ fs) file = ap (λ (l : List LogReading). file_reading f ∷ l) (map_push fs file)
-
--- a file that is no segment, with a `from` of at most `begin`, has no gap, and makes none
-gaps_push : (begin : ℕ) (fs : List LogReading) (new : LogReading) → new.head.segment ≡ None → new.head.from ≤ begin → ((i : ℕ) → IsGap begin fs i → ⊥)
-    → (i : ℕ) → IsGap begin (fs ++ new ∷ []) i → ⊥
-gaps_push begin fs new alone low none i = none_at (HasGap begin all) all i (λ x at gap. elim (Contains-push_cases fs new x at) as (λ _. ⊥) [
-  | inl old ↦ none_of (HasGap begin fs) fs x none old (old_gap x gap)
-  | inr e ↦ no_gap x (ap (λ (l : LogReading). l.head.segment) (sym e) ∙ alone) (subst (λ (l : LogReading). l.head.from ≤ begin) e low) gap
-])
-  where
-    all : List LogReading
-    all = fs ++ new ∷ []
-
-    has_old : (P : Option Segment → Type 0) → (P None → ⊥) → HasFile all P → HasFile fs P
-    has_old P not has = elim (Contains-push_cases fs new has.1 (has.0, has.2, has.3)) as (λ _. HasFile fs P) [
-      | inl old ↦ (old.0, has.1, old.1, old.2, has.4)
-      | inr e ↦ absurd (not (subst P (ap (λ (l : LogReading). l.head.segment) (sym e) ∙ alone) has.4))
-    ]
-
-    has_more : (P : Option Segment → Type 0) → HasFile fs P → HasFile all P
-    has_more P has = let at = Contains-append_left fs (new ∷ []) has.1 (has.0, has.2, has.3) in (at.0, has.1, at.1, at.2, has.4)
-
-    old_gap : (x : LogReading) → HasGap begin all x → HasGap begin fs x
-    old_gap x gap = elim gap as (λ _. HasGap begin fs x) [
-      | inl amid ↦ inl (has_old (λ other. IsEarlier other x.head.segment) (λ none. none) amid.0, λ just. amid.1 (has_more (λ other. IsJustBefore other x.head.segment) just))
-      | inr first ↦ inr (λ earlier. first.0 (has_more (λ other. IsEarlier other x.head.segment) earlier), first.1)
-    ]
-
-    no_gap : (x : LogReading) → x.head.segment ≡ None → x.head.from ≤ begin → HasGap begin all x → ⊥
-    no_gap x is most gap = elim gap as (λ _. ⊥) [
-      | inl amid ↦ let has = amid.0 in none_earlier has.1.head.segment (subst (IsEarlier has.1.head.segment) is has.4)
-      | inr first ↦ let late : begin < x.head.from = first.1 in omega (arith, most, late)
-    ]
-
-alone_added : (begin : ℕ) (files : List OpenFile) (new : OpenFile) → AreOpen begin files → IsAloneFrom begin new → AreOpen begin (files ++ new ∷ [])
-alone_added begin files new opens is = record {
-  each = λ file at. elim (Contains-push_cases files new file at) as (λ _. IsOpenFile file) [ inl old ↦ opens.each file old | inr e ↦ subst IsOpenFile e is.is_open ];
-  once = subst (λ (fs : List LogReading). (i : ℕ) → IsDoubled fs i → ⊥) (sym (map_push files new))
-      (once_of (readings ++ file_reading new ∷ []) (apart_push readings (file_reading new) is.alone (apart_of readings opens.once)));
-  no_gap = subst (λ (fs : List LogReading). (i : ℕ) → IsGap begin fs i → ⊥) (sym (map_push files new)) (gaps_push begin readings (file_reading new) is.alone is.from opens.no_gap);
-  whole = λ a b at_a at_b behind. opens.whole a b (first_old a b at_a behind) (second_old a b at_b behind) behind;
-  beyond = λ a b at_a at_b behind. opens.beyond a b (first_old a b at_a behind) (second_old a b at_b behind) behind;
-}
-  where
-    readings : List LogReading
-    readings = map file_reading files
-
-    segment_is : (file : OpenFile) → new ≡ file → file.head.segment ≡ None
-    segment_is file e = ap (λ (f : OpenFile). f.head.segment) (sym e) ∙ is.alone
-
-    first_old : (a b : OpenFile) → Contains (files ++ new ∷ []) a → IsBehind a b → Contains files a
-    first_old a b at behind = elim (Contains-push_cases files new a at) as (λ _. Contains files a) [
-      | inl old ↦ old
-      | inr e ↦
-          let none : IsEarlier None b.head.segment = subst (λ (s : Option Segment). IsEarlier s b.head.segment) (segment_is a e) behind in
-          absurd none
-    ]
-
-    second_old : (a b : OpenFile) → Contains (files ++ new ∷ []) b → IsBehind a b → Contains files b
-    second_old a b at behind = elim (Contains-push_cases files new b at) as (λ _. Contains files b) [
-      | inl old ↦ old
-      | inr e ↦ absurd (none_earlier a.head.segment (subst (IsEarlier a.head.segment) (segment_is b e) behind))
-    ]
+new_added : (begin time : ℕ) (change : Change) → time < greatest_timestamp → IsLoggedChange widest change → (files : List OpenFile) → MayBeAdded begin files (new_file time change)
+new_added begin time change fits lawful files = fresh_added begin files (new_file time change) (record {
+  is_reading = new_reading time change fits lawful;
+  synced = all_of_it (new_file time change) (new_reading time change fits lawful);
+  claim = new_synced time change fits lawful (λ r. 0 ≤ r.timestamp) (omega arith);
+}) (λ other at one. not_alone other.head.segment None refl one) (omega arith)
 
 -- the updates of the new file, as those of some log
 added_in : (log : ℕ) (xs : List (LogOf OpenFile)) (file : OpenFile)
@@ -502,7 +400,7 @@ life_acknowledges acked logs checkpoints time change life next =
     let files_c = there_append b (there file ∷ []) in
     let synced = new_synced time change fits next.lawful in
     let add = add_file acked b checkpoints file (record {
-      opens = subst (AreOpen begin) (sym files_c) (alone_added begin (those_there b) file opens_b (new_alone begin time change fits next.lawful));
+      opens = subst (AreOpen begin) (sym files_c) (opens_with begin (those_there b) file opens_b (new_added begin time change fits next.lawful (those_there b)));
       new = λ u at. elim (of_added 0 b file u at) as (λ _. Contains (updates_in b) u ⊎ ((checkpoint : CheckpointReading) → Contains checkpoints.written checkpoint → IsNewOver (updates_in b) checkpoint u)) [
         | inl old ↦ inl old
         | inr own ↦ inr (λ checkpoint among. subst (λ (x : List Update × Update). IsNewOver x.0 checkpoint x.1)

@@ -38,13 +38,12 @@ use Rattle.mt_recover.proofs.OneVerdict.{one_store, no_verdict, same_facts}
 use Rattle.mt_writer.specs.Files.{file_bytes, file_reading, HasSynced, IsOpenFile}
 use Rattle.mt_laws.specs.Fresh.{AreAllParts, reading_with, log_file, IsFresh, GoOnAfter, surviving, updates_after, AreAbove}
 use Rattle.mt_laws.specs.Lives.{AreOpen, IsFreshStart}
-use Rattle.mt_laws.specs.Writing.{IsAloneFrom}
 use Rattle.mt_laws.proofs.Entries.{entry_stamp, entry_update}
 use Rattle.mt_laws.proofs.Moved.{version_at_most, version_below, Decides, at_most, column_by, moved, same_walk}
 use Rattle.mt_laws.proofs.LeftFiles.{none_at}
 use Rattle.mt_laws.proofs.SomeCutoff.{some_cutoff}
 use Rattle.mt_laws.proofs.SomeVerdict.{store_of}
-use Rattle.mt_laws.proofs.SomeLife.{only_one, all_alone}
+use Rattle.mt_laws.proofs.SomeLife.{IsAloneFrom, only_one, all_alone}
 use Rattle.mt_laws.proofs.FreshParts.{known_as, chooses}
 
 -- ---- the entries of pairs

@@ -150,7 +150,7 @@ one_at : {X : Type 0} (x y : X) (o : Option X) → IsSomeAnd o (λ z. z ≡ x) �
 one_at x y None is too = absurd is
 one_at x y (Some z) is too = sym is ∙ too
 
-same_back : (a b : Option Segment) → IsSame a b → IsSame b a
+pub same_back : (a b : Option Segment) → IsSame a b → IsSame b a
 same_back (Some a) (Some b) is = (sym is.0, sym is.1)
 same_back (Some a) None is = absurd is
 same_back None b is = absurd is

@@ -40,11 +40,14 @@ pub mod NewParts
 pub mod ChosenParts
 pub mod Restart
 pub mod Doubled
+pub mod Added
 pub mod Acknowledging
 pub mod SomeSegments
 pub mod Successors
 pub mod LostNames
 pub mod Timestamps
-pub mod WriterSteps
+pub mod Slots
 pub mod ServerCalls
+pub mod ServerCrashes
+pub mod ServerRestarts
 pub mod SomeCalls

@@ -753,6 +753,29 @@ marks_add_none log (x ∷ xs) file u marks at =
     let rs = records_in (as_written x) in
     stay_in log rs rs (history_of (map as_written (xs ++ there file ∷ []))) (history_of (map as_written xs)) u (λ here. here) (marks_add_none (suc log) xs file u marks) at
 
+never_fall : {left parts : List (List ℕ)} (acked : List Update) (before : List (LogOf (List Logged))) (facts : Facts left parts) → IsFoundBy acked before facts
+    → (rs : List Logged) → Contains (those_there before) rs → NeverFall rs
+never_fall acked before facts found rs at = (partner_of (AgreeBelow facts.cutoff) (records_of facts.readings) (those_there before) rs found.agree at).2.others_rise
+
+-- the updates after a fresh start are those that were written below the cutoff
+afresh_updates : (acked : List Update) (before : List (LogOf (List Logged))) (left parts : List (List ℕ)) (facts : Facts left parts) (file : OpenFile)
+    → ((r : Logged) → Contains file.records r → is_mark r ≡ true) → IsFoundBy acked before facts
+    → (u : Update) → Contains (updates_in (map (left_behind facts.cutoff) before ++ there file ∷ [])) u ↔ Contains (log_updates (history_of before)) u × (u.timestamp < facts.cutoff)
+afresh_updates acked before left parts facts file marks found =
+    let cutoff = facts.cutoff in
+    let behind = map (left_behind cutoff) before in
+    let us = log_updates (history_of before) in
+    let rise = never_fall acked before facts found in
+    let same = same_below cutoff us (updates_in behind) (record {
+      same = agreeing_survive (record { begin = 0; cutoff = cutoff }) 0 (history_of before) (history_of (map as_written behind)) (behind_agrees (begin_of facts.chosen) cutoff before found.old rise);
+      early = λ u at. updates_old cutoff 0 (history_of (map as_written behind)) u
+          (all_behind cutoff before (begin_of facts.chosen) (begins_below facts.known cutoff facts.chosen facts.is_chosen) found.old rise) at;
+    }) in
+    λ u. (
+      λ at. (same u).0 (marks_add_none 0 behind file u marks at),
+      λ both. stay_with_more 0 behind file u ((same u).1 both),
+    )
+
 started_afresh : (acked : List Update) (before : List (LogOf (List Logged))) (left parts : List (List ℕ)) (facts : Facts left parts) (file : OpenFile) (new : CheckpointReading)
     → IsFreshStart facts file new → IsDown acked before left parts → IsRunning acked (map (left_behind facts.cutoff) before ++ there file ∷ []) (only (Some new))
 started_afresh acked before left parts facts file new start was =
@@ -761,19 +784,9 @@ started_afresh acked before left parts facts file new start was =
     let behind = map (left_behind cutoff) before in
     let after = behind ++ there file ∷ [] in
     let begins = begins_below facts.known cutoff facts.chosen facts.is_chosen in
-    let rise : (rs : List Logged) → Contains (those_there before) rs → NeverFall rs = λ rs at. (partner_of (AgreeBelow cutoff) (records_of facts.readings) (those_there before) rs found.agree at).2.others_rise in
-    let old = old_append cutoff behind file (behind_old (begin_of facts.chosen) cutoff before begins found.old rise) in
-    let window : Window = record { begin = 0; cutoff = cutoff } in
+    let old = old_append cutoff behind file (behind_old (begin_of facts.chosen) cutoff before begins found.old (never_fall acked before facts found)) in
     let us = log_updates (history_of before) in
-    let behind_updates : AreResumed cutoff us (updates_in behind) = record {
-      same = agreeing_survive window 0 (history_of before) (history_of (map as_written behind)) (behind_agrees (begin_of facts.chosen) cutoff before found.old rise);
-      early = λ u at. updates_old cutoff 0 (history_of (map as_written behind)) u (all_behind cutoff before (begin_of facts.chosen) begins found.old rise) at;
-    } in
-    let same = same_below cutoff us (updates_in behind) behind_updates in
-    let same_after : (u : Update) → Contains (updates_in after) u ↔ Contains us u × (u.timestamp < cutoff) = λ u. (
-      λ at. (same u).0 (marks_add_none 0 behind file u start.marks at),
-      λ both. stay_with_more 0 behind file u ((same u).1 both),
-    ) in
+    let same_after = afresh_updates acked before left parts facts file start.marks found in
     let there_is : those_there after ≡ file ∷ [] = there_append behind (there file ∷ []) ∙ ap (λ (fs : List OpenFile). fs ++ file ∷ []) (none_there cutoff before) in
     let all = survivors cutoff None (history_of before) in
     let covered : AreCovered before facts.readings cutoff facts.chosen start.version = record { agree = found.agree; old = found.old; sound = found.sound; most = start.most } in
@@ -868,10 +881,10 @@ resumed_as cutoff reading =
     record { head = (resumed cutoff reading).head; records = (resumed cutoff reading).records; synced = log_bytes (resumed cutoff reading).head (resumed cutoff reading).records }
 
 -- the logs after a resume
-record AreAfter (cutoff : ℕ) (logs : List (LogOf (List Logged))) (left : List (List ℕ)) : Type 0 where
-  after : List (LogOf OpenFile)
-  places : AllZip (IsStill (λ (records : List Logged) (file : OpenFile). Unit {0})) logs after
-  resumed : AllZip (IsResumedAs cutoff) left (those_there after)
+pub record AreAfter (cutoff : ℕ) (logs : List (LogOf (List Logged))) (left : List (List ℕ)) : Type 0 where
+  pub after : List (LogOf OpenFile)
+  pub places : AllZip (IsStill (λ (records : List Logged) (file : OpenFile). Unit {0})) logs after
+  pub resumed : AllZip (IsResumedAs cutoff) left (those_there after)
 
 all_after : (R : List Logged → List Logged → Type 0) (cutoff : ℕ) (logs : List (LogOf (List Logged))) (left : List (List ℕ)) (readings : List LogReading) → AreReadings left readings
     → AllZip R (records_of readings) (those_there logs) → AreAfter cutoff logs left
@@ -892,15 +905,34 @@ all_after R cutoff (there ts ∷ logs) (l ∷ ls) (r ∷ rs) read agree =
       resumed = (record { reading = r; is_reading = read.0; replaces = refl; synced = refl }, rest.resumed);
     }
 
+pub life_after : (acked : List Update) (logs : List (LogOf (List Logged))) (left parts : List (List ℕ)) → Life (down acked logs left parts) → (facts : Facts left parts)
+    → AreAfter facts.cutoff logs left
+life_after acked logs left parts life facts =
+    let is : IsDown acked logs left parts = life_holds (down acked logs left parts) life in
+    all_after (AgreeBelow facts.cutoff) facts.cutoff logs left facts.readings facts.read (found_by acked logs left parts is facts).agree
+
+pub life_afresh : (acked : List Update) (before : List (LogOf (List Logged))) (left parts : List (List ℕ)) (facts : Facts left parts) (file : OpenFile)
+    → ((r : Logged) → Contains file.records r → is_mark r ≡ true) → Life (down acked before left parts)
+    → (u : Update) → Contains (updates_in (map (left_behind facts.cutoff) before ++ there file ∷ [])) u ↔ Contains (log_updates (history_of before)) u × (u.timestamp < facts.cutoff)
+life_afresh acked before left parts facts file marks life =
+    let is : IsDown acked before left parts = life_holds (down acked before left parts) life in
+    afresh_updates acked before left parts facts file marks (found_by acked before left parts is facts)
+
+-- the updates after a resume are those that were written below the cutoff
+pub life_resumes : (acked : List Update) (before : List (LogOf (List Logged))) (left parts : List (List ℕ)) (after : List (LogOf OpenFile)) (facts : Facts left parts)
+    → Life (down acked before left parts) → AllZip (IsStill (λ records file. Unit {0})) before after → AllZip (IsResumedAs facts.cutoff) left (those_there after)
+    → (u : Update) → Contains (updates_in after) u ↔ Contains (log_updates (history_of before)) u × (u.timestamp < facts.cutoff)
+life_resumes acked before left parts after facts life places are =
+    let is : IsDown acked before left parts = life_holds (down acked before left parts) life in
+    resumed_updates acked before left parts after facts places (zip_resumed left parts after facts are) (found_by acked before left parts is facts)
+
 pub life_goes_on : (acked : List Update) (logs : List (LogOf (List Logged))) (left parts : List (List ℕ)) (pairs : List Pair) → Life (down acked logs left parts)
     → (store : IsStoreOf left parts pairs) → (after : List (LogOf OpenFile)) × Life (running acked after (only store.basis.facts.chosen))
     × ((u : Update) → Contains (updates_in after) u ↔ Contains (survivors store.basis.facts.cutoff None (history_of logs)) u)
 life_goes_on acked logs left parts pairs life store =
-    let is : IsDown acked logs left parts = life_holds (down acked logs left parts) life in
     let facts = store.basis.facts in
-    let found = found_by acked logs left parts is facts in
-    let all = all_after (AgreeBelow facts.cutoff) facts.cutoff logs left facts.readings facts.read found.agree in
-    let updates = resumed_updates acked logs left parts all.after facts all.places (zip_resumed left parts all.after facts all.resumed) found in (
+    let all = life_after acked logs left parts life facts in
+    let updates = life_resumes acked logs left parts all.after facts life all.places all.resumed in (
       all.after,
       then (down acked logs left parts) (running acked all.after (only facts.chosen)) life (resume acked logs left parts all.after facts all.places all.resumed),
       λ u. (

@@ -1,7 +1,6 @@
 -- A crash that loses names: what is left is what a deletion leaves.
-use Rattle.std.proofs.Common.{◌≡◌, ◌⊎◌, inl, inr, ℕ, ◌+◌, ◌<◌, ◌≤◌, Option, Some, None, List, [], ◌∷◌, map, Contains, sym, ◌∙◌, subst, arith}
+use Rattle.std.proofs.Common.{◌⊎◌, inl, inr, ℕ, ◌<◌, ◌≤◌, Option, List, [], ◌∷◌, map, Contains, sym, subst, arith}
 use Rattle.std.specs.List.{AllZip}
-use Rattle.std.proofs.lemmas.Bool.{cases_eq, cases_order, false≢true}
 use Rattle.mt_words.specs.declared.update.Update.{Update}
 use Rattle.mt_record.specs.declared.feed.head.Segment.{Segment}
 use Rattle.mt_record.specs.Logs.{LogReading}
@@ -15,7 +14,7 @@ use Rattle.mt_laws.proofs.LeftFiles.{none_at}
 use Rattle.mt_laws.proofs.Doubled.{AreApart, apart_of, once_of, none_of}
 use Rattle.mt_laws.proofs.KeptLogs.{was_there}
 use Rattle.mt_laws.proofs.Living.{life_holds}
-use Rattle.mt_laws.proofs.Successors.{just_parts, just_from}
+use Rattle.mt_laws.proofs.Successors.{just_is_earlier, just_or_earlier}
 
 -- ---- fewer files
 
@@ -36,39 +35,13 @@ apart_fewer begin (there a ∷ xs) (deleted rs ∷ ys) are apart = apart_fewer b
 apart_fewer begin (deleted rs ∷ xs) (there b ∷ ys) are apart = absurd are.0
 apart_fewer begin (deleted rs ∷ xs) (deleted ts ∷ ys) are apart = apart_fewer begin xs ys are.1 apart
 
--- a segment directly before another is an earlier one
-just_is_earlier : (a b : Option Segment) → IsJustBefore a b → IsEarlier a b
-just_is_earlier (Some a) (Some b) is = let same = just_parts a b is in let next : a.number + 1 ≡ b.number = same.1 in (same.0, omega (arith, next))
-just_is_earlier (Some a) None is = absurd (false≢true is)
-just_is_earlier None b is = absurd (false≢true is)
-
--- an earlier segment is the one directly before, or is earlier than that
-just_or_earlier : (a b c : Option Segment) → IsEarlier a c → IsJustBefore b c → IsJustBefore a c ⊎ IsEarlier a b
-just_or_earlier (Some a) (Some b) (Some c) earlier just =
-    let less : a.number < c.number = earlier.1 in
-    let same = just_parts b c just in
-    let next : b.number + 1 ≡ c.number = same.1 in
-    elim (cases_eq a.number b.number) as (λ _. IsJustBefore (Some a) (Some c) ⊎ IsEarlier (Some a) (Some b)) [
-      | inl e ↦ inl (just_from a c (earlier.0, omega (arith, e, next)))
-      | inr differ ↦ inr (earlier.0 ∙ sym same.0, below a.number b.number differ (omega (arith, less, next)))
-    ]
-  where
-    below : (m n : ℕ) → (m ≡ n → ⊥) → m ≤ n → m < n
-    below m n differ most = elim (cases_order m n) as (λ _. m < n) [
-      | inl e ↦ absurd (differ e)
-      | inr apart ↦ elim apart as (λ _. m < n) [ inl less ↦ less | inr more ↦ absurd (omega (arith, more, most)) ]
-    ]
-just_or_earlier (Some a) (Some b) None earlier just = absurd earlier
-just_or_earlier (Some a) None c earlier just = absurd (false≢true just)
-just_or_earlier None b c earlier just = absurd earlier
-
 -- the file of one of these segments
-file_of : (P : Option Segment → Type 0) (files : List OpenFile) → HasFile (map file_reading files) P → (file : OpenFile) × Contains files file × P file.head.segment
+pub file_of : (P : Option Segment → Type 0) (files : List OpenFile) → HasFile (map file_reading files) P → (file : OpenFile) × Contains files file × P file.head.segment
 file_of P files has =
     let file = of_map file_reading files has.1 (has.0, has.2, has.3) in
     (file.0, file.1, subst (λ (f : LogReading). P f.head.segment) (sym file.2) has.4)
 
-has_file : (P : Option Segment → Type 0) (files : List OpenFile) (file : OpenFile) → Contains files file → P file.head.segment → HasFile (map file_reading files) P
+pub has_file : (P : Option Segment → Type 0) (files : List OpenFile) (file : OpenFile) → Contains files file → P file.head.segment → HasFile (map file_reading files) P
 has_file P files file at is = let among = in_map file_reading files file at in (among.0, file_reading file, among.1, among.2, is)
 
 -- ---- the files that are left

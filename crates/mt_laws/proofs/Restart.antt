@@ -20,10 +20,9 @@ use Rattle.mt_replay.specs.Walk.{IsWalk}
 use Rattle.mt_recover.specs.Recovery.{Facts, survivors, records_of, IsStoreOf}
 use Rattle.mt_writer.specs.Files.{OpenFile, file_bytes, file_reading, HasSynced}
 use Rattle.mt_laws.specs.Lives.{LogOf, there, left_behind, IsFreshStart, only, running, down, start_afresh, Life, then}
-use Rattle.mt_laws.specs.Writing.{IsAloneFrom}
 use Rattle.mt_laws.proofs.Afresh.{greatest, below_greatest}
 use Rattle.mt_laws.proofs.Living.{all_of_it}
-use Rattle.mt_laws.proofs.SomeLife.{only_one, all_alone}
+use Rattle.mt_laws.proofs.SomeLife.{IsAloneFrom, only_one, all_alone}
 
 -- a file from the cutoff, with a mark above it
 abbrev fresh_file : ℕ → OpenFile

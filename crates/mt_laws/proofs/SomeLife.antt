@@ -30,9 +30,9 @@ use Rattle.mt_replay.specs.KeyColumns.{HasColumn}
 use Rattle.mt_replay.specs.Survivors.{log_updates}
 use Rattle.mt_replay.specs.Walk.{IsWalk}
 use Rattle.mt_replay.proofs.Members.{of_map}
-use Rattle.mt_writer.specs.Files.{OpenFile, file_bytes, file_reading, HasSynced}
+use Rattle.mt_writer.specs.Files.{OpenFile, file_bytes, file_reading, HasSynced, IsOpenFile}
+use Rattle.mt_laws.specs.Crashes.{IsSound}
 use Rattle.mt_laws.specs.Lives.{IsBehind, AreOpen, IsSyncedAbove, AllSyncedAbove, LogOf, there, deleted, Checkpoints, AreLeftOf, only, IsAdded, AreDeleted, running, down, acknowledge, add_file, write_checkpoint, stand, delete, crash, Life, begun, then}
-use Rattle.mt_laws.specs.Writing.{IsAloneFrom}
 use Rattle.mt_laws.proofs.Deleted.{not_made_of_none}
 use Rattle.mt_laws.proofs.LeftFiles.{none_at}
 use Rattle.mt_laws.proofs.Afresh.{AreStored, fresh_sound}
@@ -41,10 +41,20 @@ use Rattle.mt_laws.proofs.Living.{all_of_it, listed_rise}
 pub only_one : {X : Type 0} (one x : X) → Contains (one ∷ []) x → one ≡ x
 only_one one x at = elim (head_or_tail one x [] at) as (λ _. one ≡ x) [ inl e ↦ e | inr none ↦ absurd (no_element x none) ]
 
+-- what holds of both holds of each
+pub of_two : {X : Type 0} (P : X → Type 0) (a b x : X) → P a → P b → Contains (a ∷ b ∷ []) x → P x
+of_two P a b x first second at = elim (head_or_tail a x (b ∷ []) at) as (λ _. P x) [ inl e ↦ subst P e first | inr later ↦ subst P (only_one b x later) second ]
+
 some_same : (a b : List ℕ) → Some a ≡ Some b → a ≡ b
 some_same a b same = cc
 
 -- ---- files that are no segments
+
+-- an open file that is no segment, with a `from` of at most the timestamp
+pub record IsAloneFrom (begin : ℕ) (file : OpenFile) : Type 0 where
+  pub is_open : IsOpenFile file
+  pub alone : file.head.segment ≡ None
+  pub from : file.head.from ≤ begin
 
 pub all_alone : (begin : ℕ) (files : List OpenFile) → ((file : OpenFile) → Contains files file → IsAloneFrom begin file) → AreOpen begin files
 all_alone begin files are = record {
@@ -140,10 +150,7 @@ old_opens : AreOpen 0 (old_file ∷ [])
 old_opens = all_alone 0 (old_file ∷ []) (λ file at. subst (IsAloneFrom 0) (only_one old_file file at) (old_alone 0))
 
 both_open : AreOpen 2 (old_file ∷ new_file ∷ [])
-both_open = all_alone 2 (old_file ∷ new_file ∷ []) (λ file at. elim (head_or_tail old_file file (new_file ∷ []) at) as (λ _. IsAloneFrom 2 file) [
-  | inl e ↦ subst (IsAloneFrom 2) e (old_alone 2)
-  | inr later ↦ subst (IsAloneFrom 2) (only_one new_file file later) new_alone
-])
+both_open = all_alone 2 (old_file ∷ new_file ∷ []) (λ file at. of_two (IsAloneFrom 2) old_file new_file file (old_alone 2) new_alone at)
 
 new_opens : AreOpen 2 (new_file ∷ [])
 new_opens = all_alone 2 (new_file ∷ []) (λ file at. subst (IsAloneFrom 2) (only_one new_file file at) new_alone)
@@ -159,42 +166,45 @@ old_above time less file at = record {
 
 -- ---- the checkpoint
 
--- the update of the put
-abbrev pub update : Update
-update = update_at (origins.Log 0 0) 1 (record { version = 1; key = []; kind = Put ((0, []) ∷ []) })
+-- the update of a put in this record of the first log
+abbrev pub update_in : ℕ → Update
+update_in nth = update_at (origins.Log 0 nth) 1 (record { version = 1; key = []; kind = Put ((0, []) ∷ []) })
 
-abbrev pairs : List Pair
+abbrev pub update : Update
+update = update_in 0
+
+abbrev pub pairs : List Pair
 pairs = ([], (0, []) ∷ []) ∷ []
 
-one_column : HasColumn (update ∷ []) [] 0 []
-one_column = record {
-  write = update;
-  stands = head_in update [];
+one_column : (nth : ℕ) → HasColumn (update_in nth ∷ []) [] 0 []
+one_column nth = record {
+  write = update_in nth;
+  stands = head_in (update_in nth) [];
   of_key = refl;
   writes = head_in (0, Some []) [];
-  greatest = λ u other at of_key writes. inl (ap (λ (w : Update). w.stamp) (sym (only_one update u at)));
-  kept = λ u at of_key resets. inl (ap (λ (w : Update). w.stamp) (sym (only_one update u at)));
+  greatest = λ u other at of_key writes. inl (ap (λ (w : Update). w.stamp) (sym (only_one (update_in nth) u at)));
+  kept = λ u at of_key resets. inl (ap (λ (w : Update). w.stamp) (sym (only_one (update_in nth) u at)));
 }
 
 holds_one : Holds pairs [] 0 []
 holds_one = ((0, []) ∷ [], head_in ([], (0, []) ∷ []) [], head_in (0, []) [])
 
-walk : IsWalk (update ∷ []) pairs
-walk = record {
+pub walk : (nth : ℕ) → IsWalk (update_in nth ∷ []) pairs
+walk nth = record {
   map = ((tt, tt), ((omega arith, (((omega arith, omega arith), tt), (omega arith, tt)), omega arith), tt));
   exact = λ key number bytes. (to key number bytes, from key number bytes);
 }
   where
-    to : (key : List ℕ) (number : ℕ) (bytes : List ℕ) → Holds pairs key number bytes → HasColumn (update ∷ []) key number bytes
+    to : (key : List ℕ) (number : ℕ) (bytes : List ℕ) → Holds pairs key number bytes → HasColumn (update_in nth ∷ []) key number bytes
     to key number bytes (columns, at, column) =
         let pair : ([], (0, []) ∷ []) ≡ (key, columns) = only_one ([], (0, []) ∷ []) (key, columns) at in
         let among = subst (λ (cs : List (ℕ × List ℕ)). Contains cs (number, bytes)) (sym (ap (λ (p : Pair). p.1) pair)) column in
         let same : (0, []) ≡ (number, bytes) = only_one (0, []) (number, bytes) among in
-        subst (λ (x : List ℕ × (ℕ × List ℕ)). HasColumn (update ∷ []) x.0 x.1.0 x.1.1) (λ i. ((pair i).0, same i)) one_column
+        subst (λ (x : List ℕ × (ℕ × List ℕ)). HasColumn (update_in nth ∷ []) x.0 x.1.0 x.1.1) (λ i. ((pair i).0, same i)) (one_column nth)
 
-    from : (key : List ℕ) (number : ℕ) (bytes : List ℕ) → HasColumn (update ∷ []) key number bytes → Holds pairs key number bytes
+    from : (key : List ℕ) (number : ℕ) (bytes : List ℕ) → HasColumn (update_in nth ∷ []) key number bytes → Holds pairs key number bytes
     from key number bytes h =
-        let is : update ≡ h.write = only_one update h.write h.stands in
+        let is : update_in nth ≡ h.write = only_one (update_in nth) h.write h.stands in
         let of_key : [] ≡ key = ap (λ (u : Update). u.key) is ∙ h.of_key in
         let written : Contains ((0, Some []) ∷ []) (number, Some bytes) = subst (λ (u : Update). Writes u.kind number (Some bytes)) (sym is) h.writes in
         let same : (0, Some []) ≡ (number, Some bytes) = only_one (0, Some []) (number, Some bytes) written in
@@ -202,22 +212,25 @@ walk = record {
         let bytes_are : [] ≡ bytes = some_same [] bytes (ap (λ (w : ℕ × Option (List ℕ)). w.1) same) in
         subst (λ (x : List ℕ × (ℕ × List ℕ)). Holds pairs x.0 x.1.0 x.1.1) (λ i. (of_key i, (number_is i, bytes_are i))) holds_one
 
-stored : AreStored (update ∷ []) pairs 2 1
-stored = record {
-  walk = walk;
-  early = λ u at. subst (λ (w : Update). w.timestamp < 2) (only_one update u at) (omega arith);
-  most = λ key number bytes column u at of_key. subst (λ (w : Update). w.stamp.version ≤ 1) (only_one update u at) (omega arith);
+stored : (nth : ℕ) → AreStored (update_in nth ∷ []) pairs 2 1
+stored nth = record {
+  walk = walk nth;
+  early = λ u at. subst (λ (w : Update). w.timestamp < 2) (only_one (update_in nth) u at) (omega arith);
+  most = λ key number bytes column u at of_key. subst (λ (w : Update). w.stamp.version ≤ 1) (only_one (update_in nth) u at) (omega arith);
 }
 
 -- begun and ended at 2
-abbrev checkpoint : CheckpointReading
+abbrev pub checkpoint : CheckpointReading
 checkpoint = record { number = 1; begin = 2; end = 2; entries = entries_with 1 pairs }
+
+pub sound : (nth : ℕ) → IsSound (update_in nth ∷ []) checkpoint
+sound nth = fresh_sound (update_in nth ∷ []) pairs 2 1 checkpoint (stored nth) refl refl refl
 
 -- its one part
 abbrev part : PartReading
 part = record { number = 1; begin = 2; part = 0; parts = 1; entries = entries_with 1 pairs; end = 2 }
 
-abbrev part_text : List ℕ
+abbrev pub part_text : List ℕ
 part_text = part_bytes (part_head Two 1 2 0 1) (entries_with 1 pairs) 2
 
 is_part : IsPartReading part_text part
@@ -259,8 +272,11 @@ no_other other valid = elim (cases_eq 1 other.number) as (λ _. Contains (checkp
 abbrev written : Checkpoints
 written = record { written = checkpoint ∷ []; base = None }
 
-abbrev stood : Checkpoints
+abbrev pub stood : Checkpoints
 stood = record { written = checkpoint ∷ []; base = Some checkpoint }
+
+pub parts_left : AreLeftOf stood (part_text ∷ [])
+parts_left = record { known = whole part ∷ []; are_known = (is_part, tt); no_other = no_other; base_is = is_valid }
 
 abbrev first : List (LogOf OpenFile)
 first = there old_file ∷ []
@@ -308,13 +324,12 @@ some_life =
     let a = begun old_file [] old_opens in
     let b = then (running [] first (only None)) (running (update ∷ []) first (only None)) a (acknowledge [] first (only None) update (head_in update []) (old_above 1 (omega arith))) in
     let c = then (running (update ∷ []) first (only None)) (running (update ∷ []) first written) b
-    (write_checkpoint (update ∷ []) first (only None) checkpoint (fresh_sound (update ∷ []) pairs 2 1 checkpoint stored refl refl refl) (listed_rise (Some checkpoint))) in
+    (write_checkpoint (update ∷ []) first (only None) checkpoint (sound 0) (listed_rise (Some checkpoint))) in
     let d = then (running (update ∷ []) first written) (running (update ∷ []) first stood) c
     (stand (update ∷ []) first written checkpoint (record { written = head_in checkpoint []; begins = omega arith; synced = old_above 2 (omega arith) })) in
     let e = then (running (update ∷ []) first stood) (running (update ∷ []) both stood) d
     (add_file (update ∷ []) first stood new_file is_added) in
-    let f = then (running (update ∷ []) both stood) (running (update ∷ []) last stood) e (delete (update ∷ []) both last stood are_deleted) in
-    let of_parts : AreLeftOf stood (part_text ∷ []) = record { known = whole part ∷ []; are_known = (is_part, tt); no_other = no_other; base_is = is_valid } in (
+    let f = then (running (update ∷ []) both stood) (running (update ∷ []) last stood) e (delete (update ∷ []) both last stood are_deleted) in (
       update,
       old_records,
       head_in update [],
@@ -322,5 +337,5 @@ some_life =
       file_bytes new_file ∷ [],
       part_text ∷ [],
       then (running (update ∷ []) last stood) (down (update ∷ []) (deleted old_records ∷ there new_records ∷ []) (file_bytes new_file ∷ []) (part_text ∷ [])) f
-          (crash (update ∷ []) last stood (file_bytes new_file ∷ []) (part_text ∷ []) ((all_of_it new_file new_reading, all_of_it new_file new_reading), tt) of_parts),
+          (crash (update ∷ []) last stood (file_bytes new_file ∷ []) (part_text ∷ []) ((all_of_it new_file new_reading, all_of_it new_file new_reading), tt) parts_left),
     )

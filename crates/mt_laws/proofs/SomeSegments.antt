@@ -17,7 +17,7 @@ use Rattle.mt_laws.specs.Lives.{IsBehind, AreOpen, there, only, IsAdded, running
 use Rattle.mt_laws.proofs.LeftFiles.{none_at}
 use Rattle.mt_laws.proofs.Living.{all_of_it}
 use Rattle.mt_laws.proofs.Doubled.{once_of}
-use Rattle.mt_laws.proofs.SomeLife.{only_one, update}
+use Rattle.mt_laws.proofs.SomeLife.{only_one, of_two, update}
 
 -- a file, all of which is synced
 abbrev synced_file : Head → List Logged → OpenFile
@@ -53,12 +53,8 @@ first_open = record { is_reading = first_reads; synced = all_of_it first first_r
 second_open : IsOpenFile second
 second_open = record { is_reading = second_reads; synced = all_of_it second second_reads; claim = second_synced (λ r. 3 ≤ r.timestamp) (omega arith) }
 
--- what holds of both files holds of each
 of_both : (P : OpenFile → Type 0) → P first → P second → (file : OpenFile) → Contains (first ∷ second ∷ []) file → P file
-of_both P one two file at = elim (head_or_tail first file (second ∷ []) at) as (λ _. P file) [
-  | inl e ↦ subst P e one
-  | inr later ↦ subst P (only_one second file later) two
-]
+of_both P one two file at = of_two P first second file one two at
 
 first_opens : AreOpen 0 (first ∷ [])
 first_opens = record {

@@ -37,4 +37,4 @@ pub use resuming::{
     resuming_changes_nothing,
 };
 pub use verdicts::some_verdict;
-pub use writing::{a_writer_takes_steps, calls_are_a_life};
+pub use writing::calls_are_a_life;

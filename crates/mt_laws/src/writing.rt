@@ -1,45 +1,25 @@
 //! Laws of a server that writes its logs by `mt_writer`.
-ghost use Rattle.std.specs.Prelude.{ℕ, ◌<◌, IfSome, List, [], ◌∷◌, ◌++◌, map, Contains};
-ghost use Rattle.std.specs.List.{AllZip};
+ghost use Rattle.std.specs.Prelude.{◌≡◌, ℕ, List, [], ◌∷◌, map, Contains};
 ghost use Rattle.mt_words.specs.declared.update.Update.{Update};
 ghost use Rattle.mt_words.specs.Changes.{Logged};
-ghost use Rattle.mt_record.specs.declared.feed.head.Head.{Head};
-ghost use Rattle.mt_recover.specs.Recovery.{begin_of};
+ghost use Rattle.mt_replay.specs.Survivors.{log_updates};
 ghost use Rattle.mt_writer.specs.Files.{OpenFile};
-ghost use Rattle.mt_writer.specs.Journals.{Journal, Writer, Keeps, file_of, holding, syncing, NewFile, Begins, begun};
-ghost use Rattle.mt_laws.specs.Lives.{AreOpen, LogOf, there, those_there, updates_in, as_written, Checkpoints, IsLeftOf, AreLeftOf, running, down, IsStep, Life};
-ghost use Rattle.mt_laws.specs.Writing.{with_file, MayBeWritten, IsClock, IsStamped, IsStampedUpTo, IsLogReached, Server, logs_of, state_of, Stands, Called};
+ghost use Rattle.mt_writer.specs.Journals.{Journal, file_of};
+ghost use Rattle.mt_laws.specs.Lives.{LogOf, as_written, down, Life};
+ghost use Rattle.mt_laws.specs.Writing.{sealed, gone, IsNewest, IsCrashOf, Server, files_there, state_of, Stands, Called};
 
-/// States that the calls of a writer are steps of a life. A record that the clock stamped is written, and what is noted
-/// as synced is synced; then the log may be written further, and the clock may go on. An update below a reach of all logs
-/// is acknowledged. A file is added whose mark is above all that was acknowledged. This is a law: it has nothing to run.
-pub fn a_writer_takes_steps()
-    ensures written { (acked : List Update) (front back : List (LogOf OpenFile)) (checkpoints : Checkpoints) (w : Writer) (j : Journal) (r : Logged) (clock : ℕ) →
-        Keeps w (holding j r) → MayBeWritten (begin_of checkpoints.base) (with_file front (file_of j) back) (file_of j) →
-        IsClock clock (updates_in (with_file front (file_of j) back)) checkpoints.written → IsStamped clock r →
-        ((later : ℕ) → IsStampedUpTo clock later r → IsClock later (updates_in (with_file front (file_of (holding j r)) back)) checkpoints.written) ×
-        MayBeWritten (begin_of checkpoints.base) (with_file front (file_of (holding j r)) back) (file_of (holding j r)) ×
-        IsStep (running acked (with_file front (file_of j) back) checkpoints) (running acked (with_file front (file_of (holding j r)) back) checkpoints) }
-    ensures synced { (acked : List Update) (front back : List (LogOf OpenFile)) (checkpoints : Checkpoints) (w later : Writer) (j : Journal) →
-        Keeps w j → MayBeWritten (begin_of checkpoints.base) (with_file front (file_of j) back) (file_of j) → Keeps later (syncing j) →
-        MayBeWritten (begin_of checkpoints.base) (with_file front (file_of (syncing j)) back) (file_of (syncing j)) ×
-        IsStep (running acked (with_file front (file_of j) back) checkpoints) (running acked (with_file front (file_of (syncing j)) back) checkpoints) }
-    ensures acknowledged { (acked : List Update) (logs : List (LogOf OpenFile)) (checkpoints : Checkpoints) (u : Update) (reach : ℕ) →
-        Contains (updates_in logs) u → ((file : OpenFile) → Contains (those_there logs) file → IsLogReached reach (those_there logs) file) →
-        u.timestamp < reach → IsStep (running acked logs checkpoints) (running (u ∷ acked) logs checkpoints) }
-    ensures added { (acked : List Update) (logs : List (LogOf OpenFile)) (checkpoints : Checkpoints) (w : Writer) (new : NewFile) (head : Head) →
-        Keeps w (begun head new.mark) → Begins new head → AreOpen (begin_of checkpoints.base) (those_there (logs ++ there (file_of (begun head new.mark)) ∷ [])) →
-        ((u : Update) → Contains acked u → u.timestamp < new.mark) → IfSome checkpoints.base (λ base. base.end < new.mark) →
-        IsStep (running acked logs checkpoints) (running acked (logs ++ there (file_of (begun head new.mark)) ∷ []) checkpoints) }
-{}
-
-/// States that a server over writers lives, in whatever order it calls them: after any calls its state is one of a life,
-/// more calls may follow, and what a crash leaves is of such a life too. And there are calls by which an update is
-/// acknowledged. This is a law: it has nothing to run.
+/// States that a server over writers lives, in whatever order it calls them, and however often it crashes, and resumes or
+/// starts afresh: after any calls its state is one of a life, and all stands for more calls. What a crash leaves at any
+/// moment, with any of the names that the folder's sync was not reported of, is of such a life too. After each crash the
+/// server can go on with each log. And there are calls, and a crash, by which an update is acknowledged, the next segment
+/// begins, a checkpoint is written, and the old segment with the update is deleted. This is a law: it has nothing to run.
 pub fn calls_are_a_life()
     ensures life { (s : Server) → Called s → Life (state_of s) }
     ensures stands { (s : Server) → Called s → Stands s }
-    ensures crashes { (s : Server) (left parts : List (List ℕ)) → Called s → AllZip IsLeftOf (those_there (logs_of s.journals)) left →
-        AreLeftOf s.checkpoints parts → Life (down s.acked (map as_written (logs_of s.journals)) left parts) }
-    ensures some { (s : Server) × (u : Update) × Contains s.acked u × Called s }
+    ensures crashes { (s : Server) (names : List (LogOf OpenFile)) (left parts : List (List ℕ)) → Called s → IsCrashOf s names left parts →
+        Life (down s.acked (map as_written names) left parts) }
+    ensures goes_on { (s : Server) (names : List (LogOf OpenFile)) (left parts : List (List ℕ)) → Called s → IsCrashOf s names left parts →
+        (after : Server) × Called after × (after.acked ≡ s.acked) × ((j : Journal) → Contains after.slots (sealed j) → IsNewest (files_there after) (file_of j) → ⊥) }
+    ensures some { (s : Server) × (u : Update) × (old : List Logged) × Contains s.acked u × Contains (log_updates (old ∷ [])) u × Contains s.slots (gone old) ×
+        Called s × (names : List (LogOf OpenFile)) × (left parts : List (List ℕ)) × IsCrashOf s names left parts }
 {}

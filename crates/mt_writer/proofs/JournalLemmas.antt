@@ -303,14 +303,14 @@ times_most limits low (r ∷ rs) time are at = elim (head_or_tail r.timestamp ti
   | inr later ↦ times_most limits r.timestamp rs time are.2 later
 ]
 
--- a file of which as many bytes are synced as it has is synced whole
-pub synced_whole : (w : Writer) (j : Journal) → Keeps w j → w.synced_size ≡ w.size → (file_of j).synced ≡ file_bytes (file_of j)
-synced_whole w j keeps same =
+-- a journal of which as many bytes are synced as it has is synced whole
+pub all_records : (w : Writer) (j : Journal) → Keeps w j → w.synced_size ≡ w.size → records_of j ≡ j.synced
+all_records w j keeps same =
     let more = more_bytes j.head j.synced (j.taken ++ j.held) in
     let all : records_of j ≡ j.synced ++ (j.taken ++ j.held) = append_assoc j.synced j.taken j.held in
     let none : length (flat_map spelling (j.taken ++ j.held)) ≡ 0 =
     omega (arith, same, keeps.size, keeps.synced_size, ap (λ (rs : List Logged). length (log_bytes j.head rs)) all, ap length more, length-append (log_bytes j.head j.synced) (flat_map spelling (j.taken ++ j.held))) in
-    sym (ap (log_bytes j.head) (all ∙ ap (λ (rs : List Logged). j.synced ++ rs) (no_records (j.taken ++ j.held) none) ∙ append-nil j.synced))
+    all ∙ ap (λ (rs : List Logged). j.synced ++ rs) (no_records (j.taken ++ j.held) none) ∙ append-nil j.synced
 
 -- no time of the file is above the last
 pub times_below : (w : Writer) (j : Journal) → Keeps w j → (time : ℕ) → Contains (times_of (file_reading (file_of j))) time → time ≤ w.last

@@ -112,8 +112,9 @@ pub record Begins (new : NewFile) (head : Head) : Type 0 where
   pub bytes : new.bytes ≡ log_bytes head (mark_of new.mark ∷ [])
   pub segment : new.segment ≡ head.segment
 
--- the file is this segment, is synced whole, and has no timestamp above `last`
+-- the file is this segment, is synced whole, reaches `last`, and has no timestamp above it
 pub record IsSealed (last worker number : ℕ) (j : Journal) : Type 0 where
   pub segment : j.head.segment ≡ Some (record { worker = worker; number = number })
   pub whole : (file_of j).synced ≡ file_bytes (file_of j)
+  pub reached : IsReached last (file_of j)
   pub times : (time : ℕ) → Contains (times_of (file_reading (file_of j))) time → time ≤ last

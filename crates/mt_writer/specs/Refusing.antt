@@ -1,5 +1,5 @@
 -- Why a log takes no record.
-use Rattle.std.specs.Prelude.{◌≡◌, ◌<◌, ◌≤◌, ◌+◌, ℕ, true, length, max}
+use Rattle.std.specs.Prelude.{◌≡◌, ◌<◌, ◌≤◌, ◌+◌, ◌⊎◌, ℕ, true, None, length, max}
 use Rattle.mt_words.specs.declared.limits.TheConstants.{LONGEST_KEY}
 use Rattle.mt_words.specs.declared.record.Change.{Change}
 use Rattle.mt_words.specs.Limits.{widest}
@@ -24,6 +24,10 @@ IsRefused w ended faults.Version = ⊥
 IsRefused w ended faults.Key = ⊥
 IsRefused w ended faults.Columns = ⊥
 IsRefused w ended faults.Memory = Unit {0}
+
+-- the file may not be sealed: a write or a sync failed, or it is no segment, or it is not synced whole
+abbrev pub MayNotSeal : Writer → Type 0
+MayNotSeal w = (w.failed ≡ true) ⊎ ((w.segment ≡ None) ⊎ (w.synced_size ≡ w.size → ⊥))
 
 -- no log may have the change, by this fault
 abbrev pub IsUnlawful : Change → WriterFault → Type 0

@@ -10,7 +10,7 @@ ghost use Rattle.mt_record.specs.LogFronts.{IsFrontOf};
 ghost use Rattle.mt_record.specs.Resuming.{greatest_timestamp};
 ghost use Rattle.mt_writer.specs.Files.{file_bytes};
 ghost use Rattle.mt_writer.specs.Journals.{Journal, Keeps, file_of, handed_out, holding, taking, syncing, read_back, MayGoOn, IsReached, IsSealed};
-ghost use Rattle.mt_writer.specs.Refusing.{HasEnded, IsRefused, IsUnlawful};
+ghost use Rattle.mt_writer.specs.Refusing.{HasEnded, IsRefused, IsUnlawful, MayNotSeal};
 ghost use Rattle.mt_writer.specs.declared.writer_fault.WriterFault.TheVariants as faults;
 
 use crate::writer_fault::WriterFault;
@@ -85,6 +85,7 @@ impl LogWriter {
         ensures accepted { IsSome result ↔ MayGoOn front }
         ensures value { (bytes : List ℕ) (records : List Logged) → IsFrontOf bytes records front →
             IfSome result (λ writer. Keeps writer (read_back front.head records) × (bytes ≡ log_bytes front.head records)) }
+        ensures failed { IfSome result (λ writer. writer.failed ≡ false) }
     {
         let is_whole = front.rest == Rest::Nothing && front.head.format == Format::Two;
         let reaches_from = front.count != 0 && front.head.from <= front.latest;
@@ -228,8 +229,10 @@ impl LogWriter {
     /// not synced whole, or if a write or a sync failed.
     pub fn seal(self) -> Result<Sealed, LogWriter>
         ensures ok { (j : Journal) → Keeps self j → IfOk result (λ sealed. IsSealed sealed.last sealed.segment.worker sealed.segment.number j) }
+        ensures last { IfOk result (λ sealed. sealed.last ≡ self.last) }
         ensures failed { OnOk result (self.failed ≡ false) }
         ensures err { IfErr result (λ same. same ≡ self) }
+        ensures refused { OnErr result (MayNotSeal self) }
     {
         if self.failed || self.synced_size != self.size {
             return Err(self);
@@ -243,6 +246,13 @@ impl LogWriter {
         })
     }
 
+    /// Returns the timestamp of the last record.
+    pub fn last(&self) -> u64
+        ensures { result ≡ self.now.last }
+    {
+        self.last
+    }
+
     /// Returns how far the log is synced: above each timestamp below the reach it has a synced record.
     pub fn reach(&self) -> u64
         ensures value { result ≡ self.now.reach }
@@ -252,7 +262,7 @@ impl LogWriter {
     }
 
     /// Appends this change, and returns its timestamp, as `put` does.
-    fn change(&mut self, now: u64, given: GivenChange<'_>) -> Result<u64, WriterFault>
+    pub fn change(&mut self, now: u64, given: GivenChange<'_>) -> Result<u64, WriterFault>
         requires { IsLogged (kind_of given.kind) }
         ensures ok { (j : Journal) → Keeps self.old j → IfOk result (λ time. Keeps self.new (holding j (changed time (change_of given.entry)))) }
         ensures time { IfOk result (λ time. time ≡ max self.old.last now) }

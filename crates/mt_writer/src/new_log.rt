@@ -1,5 +1,5 @@
 //! Begins the files of logs.
-ghost use Rattle.std.specs.Prelude.{◌≡◌, ◌⊎◌, ◌≤◌, ◌+◌, ◌^◌, max, IfOk, IfErr};
+ghost use Rattle.std.specs.Prelude.{◌≡◌, ◌⊎◌, ◌≤◌, ◌+◌, ◌^◌, false, max, IfOk, IfErr};
 ghost use Rattle.mt_words.specs.declared.limits.Format.TheVariants.{Two};
 ghost use Rattle.mt_record.specs.declared.feed.head.Head.{Head as HeadValue};
 ghost use Rattle.mt_record.specs.Encoding.{head_of, segment_head};
@@ -99,9 +99,17 @@ impl NewLog {
         self.bytes.as_slice()
     }
 
+    /// Returns the timestamp of the file's mark.
+    pub fn mark(&self) -> u64
+        ensures { result ≡ self.now.mark }
+    {
+        self.mark
+    }
+
     /// Returns the writer of the file, which has its name, with all of its bytes synced.
     pub fn created(self) -> LogWriter
-        ensures { (head : HeadValue) → Begins self head → Keeps result (begun head self.mark) }
+        ensures keeps { (head : HeadValue) → Begins self head → Keeps result (begun head self.mark) }
+        ensures failed { result.failed ≡ false }
     {
         let size = self.bytes.len() as u64;
         let mut buffer = self.bytes;
