@@ -1,4 +1,5 @@
 pub mod RecordText
+pub mod Values
 pub mod RecordJson
 pub mod Forms
 pub mod Listing

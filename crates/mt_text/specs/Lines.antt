@@ -1,9 +1,14 @@
 -- The text of a line of named values, as words or as a JSON object.
-use Rattle.std.specs.Prelude.{ℕ, Bool, true, false, Option, Some, None, List, [], ◌++◌, codes, decimal}
+use Rattle.std.specs.Prelude.{◌≡◌, ℕ, Bool, true, false, Option, Some, None, List, [], ◌++◌, codes, decimal}
 use Rattle.mt_record.specs.declared.feed.head.Head.{Head}
 use Rattle.mt_record.specs.declared.feed.head.Segment.{Segment}
+use Rattle.mt_text.specs.declared.fields.Fields.{Fields}
 use Rattle.mt_text.specs.Forms.{bytes_text}
 use Rattle.mt_text.specs.RecordJson.{format_number, member}
+
+-- one more value was printed on the same line
+abbrev pub GoesOn : {W : Type 0} → Fields W → Fields W → Type 0
+GoesOn old new = (new.out.ghost_name ≡ old.out.ghost_name) × (new.is_json ≡ old.is_json) × (new.is_first ≡ false)
 
 -- the name of a value, after what stands before it: of the first value `{` in JSON, else nothing
 abbrev pub name_text : Bool → Bool → List ℕ → List ℕ

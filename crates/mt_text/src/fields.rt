@@ -1,7 +1,8 @@
 //! Lines of named values.
-ghost use Rattle.std.specs.Prelude.{◌≡◌, ◌++◌, IfSome, OnOk, false, true};
+ghost use Rattle.std.specs.Prelude.{◌≡◌, ◌++◌, IfSome, OnOk, true};
 ghost use Rattle.std.specs.Io.KnownBytes.{Appends};
-ghost use Rattle.mt_text.specs.Lines.{end_text, flag_text, format_text, name_text, shown_text, word_text};
+ghost use Rattle.mt_text.specs.Values.{value_text};
+ghost use Rattle.mt_text.specs.Lines.{GoesOn, end_text, flag_text, format_text, name_text, shown_text, word_text};
 
 use crate::form::Form;
 use crate::json::{format_number, write_name};
@@ -33,7 +34,7 @@ impl<'a, W: Write> Fields<'a, W> {
 
     /// Prints a number. Err: write error.
     pub fn number<N: Display + Drop>(&mut self, name: &str, number: N) -> io::Result<()>
-        ensures line { (self.new.out.ghost_name ≡ self.old.out.ghost_name) × (self.new.is_json ≡ self.old.is_json) × (self.new.is_first ≡ false) }
+        ensures line { GoesOn self.old self.new }
         ensures number { OnOk result (IfSome (N.output number) (λ text. (Appends (W.contents self.old.out.now) (W.contents self.new.out.now) (name_text self.old.is_json self.old.is_first name.now ++ text)))) }
     {
         self.name(name)?;
@@ -41,7 +42,10 @@ impl<'a, W: Write> Fields<'a, W> {
     }
 
     /// Prints a value of a report. Err: write error.
-    pub fn value(&mut self, name: &str, value: Value<'_>) -> io::Result<()> {
+    pub fn value(&mut self, name: &str, value: Value<'_>) -> io::Result<()>
+        ensures line { GoesOn self.old self.new }
+        ensures value { OnOk result (Appends (W.contents self.old.out.now) (W.contents self.new.out.now) (name_text self.old.is_json self.old.is_first name.now ++ value_text self.old.is_json value.entry)) }
+    {
         self.name(name)?;
         if self.is_json {
             return value.write_json(self.out);
@@ -51,7 +55,7 @@ impl<'a, W: Write> Fields<'a, W> {
 
     /// Prints the format of a log, and which segment it is. Err: write error.
     pub fn format(&mut self, head: &Head) -> io::Result<()>
-        ensures line { (self.new.out.ghost_name ≡ self.old.out.ghost_name) × (self.new.is_json ≡ self.old.is_json) × (self.new.is_first ≡ false) }
+        ensures line { GoesOn self.old self.new }
         ensures format { OnOk result (Appends (W.contents self.old.out.now) (W.contents self.new.out.now) (format_text self.old.is_json self.old.is_first head.now)) }
     {
         self.number("format", format_number(head.format, head.segment))?;
@@ -64,7 +68,7 @@ impl<'a, W: Write> Fields<'a, W> {
 
     /// Prints a word, which needs no escapes. Err: write error.
     pub fn word<T: Display + Drop>(&mut self, name: &str, word: T) -> io::Result<()>
-        ensures line { (self.new.out.ghost_name ≡ self.old.out.ghost_name) × (self.new.is_json ≡ self.old.is_json) × (self.new.is_first ≡ false) }
+        ensures line { GoesOn self.old self.new }
         ensures word { OnOk result (IfSome (T.output word) (λ text. (Appends (W.contents self.old.out.now) (W.contents self.new.out.now) (name_text self.old.is_json self.old.is_first name.now ++ word_text self.old.is_json text)))) }
     {
         self.name(name)?;
@@ -78,7 +82,7 @@ impl<'a, W: Write> Fields<'a, W> {
 
     /// Prints `yes` or `no`, in JSON `true` or `false`. Err: write error.
     pub fn flag(&mut self, name: &str, is_so: bool) -> io::Result<()>
-        ensures line { (self.new.out.ghost_name ≡ self.old.out.ghost_name) × (self.new.is_json ≡ self.old.is_json) × (self.new.is_first ≡ false) }
+        ensures line { GoesOn self.old self.new }
         ensures flag { OnOk result (Appends (W.contents self.old.out.now) (W.contents self.new.out.now) (name_text self.old.is_json self.old.is_first name.now ++ flag_text self.old.is_json is_so)) }
     {
         self.name(name)?;
@@ -93,7 +97,7 @@ impl<'a, W: Write> Fields<'a, W> {
 
     /// Prints text, with escapes. Err: write error.
     pub fn text(&mut self, name: &str, text: &str) -> io::Result<()>
-        ensures line { (self.new.out.ghost_name ≡ self.old.out.ghost_name) × (self.new.is_json ≡ self.old.is_json) × (self.new.is_first ≡ false) }
+        ensures line { GoesOn self.old self.new }
         ensures text { OnOk result (Appends (W.contents self.old.out.now) (W.contents self.new.out.now) (name_text self.old.is_json self.old.is_first name.now ++ shown_text self.old.is_json text.now)) }
     {
         self.name(name)?;
@@ -114,7 +118,7 @@ impl<'a, W: Write> Fields<'a, W> {
 
     /// Prints the name of a value, and what stands before and after it.
     fn name(&mut self, name: &str) -> io::Result<()>
-        ensures line { (self.new.out.ghost_name ≡ self.old.out.ghost_name) × (self.new.is_json ≡ self.old.is_json) × (self.new.is_first ≡ false) }
+        ensures line { GoesOn self.old self.new }
         ensures name { OnOk result (Appends (W.contents self.old.out.now) (W.contents self.new.out.now) (name_text self.old.is_json self.old.is_first name.now)) }
     {
         let is_first = self.is_first;

@@ -1,4 +1,11 @@
 //! Values of a report.
+ghost use Rattle.std.specs.Prelude.{◌≡◌, ℕ, Some, OnOk, decimal, map};
+ghost use Rattle.std.specs.Fmt.{WritesOnOk};
+ghost use Rattle.std.specs.List.{flat_map};
+ghost use Rattle.std.specs.Io.KnownBytes.{Appends};
+ghost use Rattle.mt_text.specs.RecordJson.{after_comma};
+ghost use Rattle.mt_text.specs.Values.{numbers_words, value_words, value_json};
+
 use std::fmt::{self, Display, Formatter};
 use std::io;
 
@@ -14,10 +21,13 @@ pub enum Value<'a> {
 
 /// Writes numbers with commas between them, or `none`.
 impl<'a> Display for Value<'a> {
+    ghost output = { λ value. Some (value_words value) };
+
     fn fmt<W: fmt::Write>(&self, f: &mut Formatter<W>) -> fmt::Result {
         match self {
             Value::Number(number) => write!(f, "{number}"),
-            Value::Perhaps(number) => write_list(number.as_slice(), f),
+            Value::Perhaps(None) => f.write_str("none"),
+            Value::Perhaps(Some(number)) => write!(f, "{number}"),
             Value::Numbers(numbers) => write_list(numbers, f),
             Value::Positions(positions) => write_list(positions, f),
         }
@@ -25,21 +35,33 @@ impl<'a> Display for Value<'a> {
 }
 
 /// Writes numbers with commas between them, or `none`.
-fn write_list<T: Display, W: fmt::Write>(numbers: &[T], f: &mut Formatter<W>) -> fmt::Result {
-    if numbers.is_empty() {
+fn write_list<T: Display, W: fmt::Write>(numbers: &[T], f: &mut Formatter<W>) -> fmt::Result
+    ensures { (of : T → ℕ) → ((x : T) → T.output x ≡ Some (decimal (of x))) →
+        WritesOnOk W.write_str_gives f.old result (numbers_words (map of numbers.now)) f.new }
+{
+    let Some((first, rest)) = numbers.split_first() else {
         return f.write_str("none");
-    }
-    let mut sign = "";
+    };
+    write!(f, "{first}")?;
+    write_more(rest, f)
+}
+
+/// Writes numbers with a comma before each.
+fn write_more<T: Display, W: fmt::Write>(numbers: &[T], f: &mut Formatter<W>) -> fmt::Result
+    ensures { (of : T → ℕ) → ((x : T) → T.output x ≡ Some (decimal (of x))) →
+        WritesOnOk W.write_str_gives f.old result (flat_map (after_comma decimal) (map of numbers.now)) f.new }
+{
     for number in numbers {
-        write!(f, "{sign}{number}")?;
-        sign = ",";
+        write!(f, ",{number}")?;
     }
     Ok(())
 }
 
 impl<'a> Value<'a> {
     /// Prints the value as JSON: a number, `null`, or an array. Err: write error.
-    pub(crate) fn write_json<W: io::Write>(self, out: &mut W) -> io::Result<()> {
+    pub(crate) fn write_json<W: io::Write>(self, out: &mut W) -> io::Result<()>
+        ensures { OnOk result (Appends (W.contents out.old) (W.contents out.new) (value_json self.entry)) }
+    {
         match self {
             Value::Perhaps(None) => out.write_all(b"null"),
             Value::Numbers([]) | Value::Positions([]) => out.write_all(b"[]"),
