@@ -1,6 +1,5 @@
 -- The history of a key: which updates survive, and what is true of the updates of a key alone.
-use Rattle.std.proofs.Common.{◌≡◌, ◌⊎◌, inl, inr, ◌∙◌, ℕ, suc, ◌+◌, ◌<◌, Bool, true, false, Option, Some, None, List, [], ◌∷◌, ◌++◌, length, take, get_or, Contains, append_assoc, append-nil, refl, sym, ap, subst, arith}
-use Rattle.std.specs.Prelude.{◌↔◌}
+use Rattle.std.proofs.Common.{◌≡◌, inl, inr, ◌∙◌, ℕ, suc, ◌+◌, ◌<◌, Bool, true, false, Option, Some, None, List, [], ◌∷◌, ◌++◌, length, take, get_or, Contains, append_assoc, append-nil, refl, sym, ap, subst, arith}
 use Rattle.std.specs.List.{AllZip, filter, flat_map}
 use Rattle.std.specs.Cmp.Lexicographic.{bytes_decides}
 use Rattle.std.proofs.lemmas.Bool.{false≢true}
@@ -31,7 +30,7 @@ use Rattle.mt_recover.specs.Check.{AllFrom}
 use Rattle.mt_recover.proofs.Apart.{of_logs}
 use Rattle.mt_recover.specs.declared.history.Fate.{Fate}
 use Rattle.mt_recover.specs.declared.history.Fate.TheVariants.{Early, Late, Older, Won}
-use Rattle.mt_recover.specs.History.{is_of, Decides, IsNewestOf, Stands, IsLastRemove, IsFate, IsHistory}
+use Rattle.mt_recover.specs.History.{is_of, Decides, IsNewestOf, AreThose, AreStanding, Stands, IsLastRemove, IsFate, IsHistory}
 use Rattle.mt_recover.specs.Steps.Fates.{updates_in, survives, those_surviving, IsLost, DecidesAt, IsUndoneBy, HasAdded}
 
 -- ---- which updates survive
@@ -55,6 +54,12 @@ of_entries window None u at = absurd (no_element u at)
 of_entries window (Some checkpoint) u at =
     let found = of_map (update_at origins.Checkpoint 0) checkpoint.entries u at in
     by_checkpoint window u (ap (λ (v : Update). v.stamp.origin) (sym found.2))
+
+-- the columns for which `P` holds are those for which another property does that holds for the same columns
+those_alike : (P Q : ℕ → Type 0) → ((n : ℕ) → P n → Q n) → ((n : ℕ) → Q n → P n) → (writes : List Write) (numbers : List ℕ) → AreThose P writes numbers → AreThose Q writes numbers
+those_alike P Q to from [] numbers are = are
+those_alike P Q to from (w ∷ ws) numbers (inl holds) = inl (to w.0 holds.0, (holds.1.0, holds.1.1, those_alike P Q to from ws holds.1.0 holds.1.2))
+those_alike P Q to from (w ∷ ws) numbers (inr fails) = inr (λ q. fails.0 (from w.0 q), those_alike P Q to from ws numbers fails.1)
 
 module _ (window : Window) (scans : List LogScan) (chosen : Option CheckpointReading) where
   abbrev pub all : List Update
@@ -103,11 +108,9 @@ module _ (window : Window) (scans : List LogScan) (chosen : Option CheckpointRea
       newest_from : (P : Update → Type 0) → IsNewestOf P survivors u → IsNewestOf P (those_surviving window told) u
       newest_from P newest = λ v here same is. newest v (to_all v here) same is
 
-      stands_to : (number : ℕ) → Stands (those_surviving window told) u number → Stands survivors u number
-      stands_to number stands = record { bytes = stands.bytes; writes = stands.writes; newest = newest_to (λ v. Decides v number) stands.newest }
-
-      stands_from : (number : ℕ) → Stands survivors u number → Stands (those_surviving window told) u number
-      stands_from number stands = record { bytes = stands.bytes; writes = stands.writes; newest = newest_from (λ v. Decides v number) stands.newest }
+      stand_to : (numbers : List ℕ) → AreStanding (those_surviving window told) u numbers → AreStanding survivors u numbers
+      stand_to numbers are =
+          those_alike (Stands (those_surviving window told) u) (Stands survivors u) (λ n. newest_to (λ v. Decides v n)) (λ n. newest_from (λ v. Decides v n)) (writes_of u.kind) numbers are
 
       last_to : IsLastRemove (those_surviving window told) u → IsLastRemove survivors u
       last_to last = record { removes = last.removes; newest = newest_to (λ v. IsReset v.kind) last.newest }
@@ -119,8 +122,8 @@ module _ (window : Window) (scans : List LogScan) (chosen : Option CheckpointRea
       pub fate_to : (fate : Fate) → IsFate window (those_surviving window told) u fate → IsFate window survivors u fate
       fate_to Early is = (λ here. is.0 (from_all u (of_key u at) here), is.1)
       fate_to Late is = (λ here. is.0 (from_all u (of_key u at) here), is.1)
-      fate_to Older is = (to_all u is.0, λ number stands. is.1 number (stands_from number stands), λ last. is.2 (last_from last))
-      fate_to (Won numbers) is = (to_all u is.0, λ number. (λ here. stands_to number ((is.1 number).0 here), λ stands. (is.1 number).1 (stands_from number stands)), λ none. last_to (is.2 none))
+      fate_to Older is = (to_all u is.0, stand_to [] is.1, λ last. is.2 (last_from last))
+      fate_to (Won numbers) is = (to_all u is.0, stand_to numbers.items is.1, λ none. last_to (is.2 none))
 
 -- ---- fates, one after another
 
@@ -215,52 +218,26 @@ not_newest window number us u v at by newest =
 
 -- ---- which columns stand
 
-module _ (window : Window) (us : List Update) (u : Update) where
-  -- the numbers that were found while these writes are left
-  pub record AreFound (left : List Write) (numbers : List ℕ) : Type 0 where
-    pub among : (write : Write) → Contains left write → Contains (writes_of u.kind) write
-    pub stand : (number : ℕ) → Contains numbers number → Stands (those_surviving window us) u number
-    pub all : (number : ℕ) → Stands (those_surviving window us) u number → Contains numbers number ⊎ ((bytes : Option (List ℕ)) × Contains left (number, bytes))
+module _ (P : ℕ → Type 0) (all : List Write) where
+  -- the numbers so far, and then those of the writes that are left, are those of all writes
+  abbrev pub AreSoFar : List Write → List ℕ → Type 0
+  AreSoFar left numbers = (more : List ℕ) → AreThose P left more → AreThose P all (numbers ++ more)
 
-  pub found_none : (left : List Write) (numbers : List ℕ) → left ≡ writes_of u.kind → numbers ≡ [] → AreFound left numbers
-  found_none left numbers are none = record {
-    among = λ write at. subst (λ (ws : List Write). Contains ws write) are at;
-    stand = λ number at. absurd (no_element number (subst (λ (ns : List ℕ). Contains ns number) none at));
-    all = λ number stands. inr (stands.bytes, subst (λ (ws : List Write). Contains ws (number, stands.bytes)) (sym are) stands.writes);
-  }
+  pub none_so_far : (left : List Write) (numbers : List ℕ) → left ≡ all → numbers ≡ [] → AreSoFar left numbers
+  none_so_far left numbers are none more those = subst (λ (ws : List Write). AreThose P ws (numbers ++ more)) are (subst (λ (ns : List ℕ). AreThose P left (ns ++ more)) (sym none) those)
 
-  pub found_more : (write : Write) (left later : List Write) (old new : List ℕ) → left ≡ write ∷ later → HasAdded old write.0 (IsNewestOf (DecidesAt (Some write.0)) (those_surviving window us) u) new → AreFound left old → AreFound later new
-  found_more write left later old new is more found = record {
-    among = λ w at. found.among w (subst (λ (ws : List Write). Contains ws w) (sym is) (tail_in write w later at));
-    stand = λ number at. elim ((more number).0 at) as (λ _. Stands (those_surviving window us) u number) [
-      | inl before ↦ found.stand number before
-      | inr here ↦ subst (λ (n : ℕ). Stands (those_surviving window us) u n) (sym here.0) (record {
-        bytes = write.1;
-        writes = found.among write (subst (λ (ws : List Write). Contains ws write) (sym is) (head_in write later));
-        newest = here.1;
-      })
-    ];
-    all = λ number stands.
-        let Result : Type 0 = Contains new number ⊎ ((bytes : Option (List ℕ)) × Contains later (number, bytes)) in
-        elim (found.all number stands) as (λ _. Result) [
-          | inl before ↦ inl ((more number).1 (inl before))
-          | inr to_come ↦ elim (head_or_tail write (number, to_come.0) later (subst (λ (ws : List Write). Contains ws (number, to_come.0)) is to_come.1)) as (λ _. Result) [
-            | inl e ↦
-                let same : number ≡ write.0 = ap (λ (w : Write). w.0) (sym e) in
-                inl ((more number).1 (inr (same, subst (λ (n : ℕ). IsNewestOf (DecidesAt (Some n)) (those_surviving window us) u) same stands.newest)))
-            | inr later ↦ inr (to_come.0, later)
-          ]
-        ];
-  }
+  pub one_more : (write : Write) (left later : List Write) (old new : List ℕ) → left ≡ write ∷ later → HasAdded old write.0 (P write.0) new → AreSoFar left old → AreSoFar later new
+  one_more write left later old new is (inl holds) so_far more those =
+      let first : AreThose P left (write.0 ∷ more) = subst (λ (ws : List Write). AreThose P ws (write.0 ∷ more)) (sym is) (inl (holds.0, (more, refl, those))) in
+      subst (AreThose P all) (sym (ap (λ (ns : List ℕ). ns ++ more) holds.1 ∙ append_assoc old (write.0 ∷ []) more)) (so_far (write.0 ∷ more) first)
+  one_more write left later old new is (inr fails) so_far more those =
+      let first : AreThose P left more = subst (λ (ws : List Write). AreThose P ws more) (sym is) (inr (fails.0, those)) in
+      subst (λ (ns : List ℕ). AreThose P all (ns ++ more)) (sym fails.1) (so_far more first)
 
-  pub found_all : (left : List Write) (numbers : List ℕ) → left ≡ [] → AreFound left numbers → (number : ℕ) → Contains numbers number ↔ Stands (those_surviving window us) u number
-  found_all left numbers none found = λ number. (
-    found.stand number,
-    λ stands. elim (found.all number stands) as (λ _. Contains numbers number) [
-      | inl before ↦ before
-      | inr to_come ↦ absurd (no_element (number, to_come.0) (subst (λ (ws : List Write). Contains ws (number, to_come.0)) none to_come.1))
-    ],
-  )
+  pub all_so_far : (left : List Write) (numbers : List ℕ) → left ≡ [] → AreSoFar left numbers → AreThose P all numbers
+  all_so_far left numbers none so_far =
+      let end : AreThose P left [] = subst (λ (ws : List Write). AreThose P ws []) (sym none) refl in
+      subst (AreThose P all) (append-nil numbers) (so_far [] end)
 
 -- ---- the fate of one update
 
@@ -275,10 +252,6 @@ is_lost window us u fate not = by fate
     by Late is = (gone, is)
     by Older is = absurd is
     by (Won numbers) is = absurd is
-
--- no column stands if none was found
-pub none_stands : (window : Window) (us : List Update) (u : Update) (numbers : List ℕ) → ((number : ℕ) → Contains numbers number ↔ Stands (those_surviving window us) u number) → numbers ≡ [] → (number : ℕ) → Stands (those_surviving window us) u number → ⊥
-none_stands window us u numbers found none = λ number stands. no_element number (subst (λ (ns : List ℕ). Contains ns number) none ((found number).1 stands))
 
 -- what is written to the column, among the writes of an update
 pub is_written : (kind : Kind) (number : ℕ) (write : Write) (left later : List Write) → left ≡ write ∷ later → write.0 ≡ number → ((w : Write) → Contains left w → Contains (writes_of kind) w) → (bytes : Option (List ℕ)) × Writes kind number bytes

@@ -10,7 +10,7 @@ ghost use Rattle.mt_scan.specs.Scans.{ShowsLog};
 ghost use Rattle.mt_replay.specs.Survivors.{log_updates, wholes};
 ghost use Rattle.mt_recover.specs.Recovery.{entry_updates, records_of};
 ghost use Rattle.mt_recover.specs.Check.{AllFrom};
-ghost use Rattle.mt_recover.specs.History.{is_of, IsNewestOf, Stands, IsRemove, IsLastRemove, IsFate, IsHistory};
+ghost use Rattle.mt_recover.specs.History.{is_of, IsNewestOf, AreStanding, Stands, IsRemove, IsLastRemove, IsFate, IsHistory};
 ghost use Rattle.mt_recover.specs.Steps.Fates.{updates_in, survives, those_surviving, IsLost, DecidesAt, Undoes, HasAdded};
 
 use mt_record::{KeptEntries, Lent, Updates};
@@ -200,14 +200,14 @@ fn lost(window: Window, update: &Lent<'_>) -> Fate
     }
 }
 
-/// Returns the numbers of the columns that are as an update wrote them. Err: out of memory.
+/// Returns the numbers of the columns that are as an update wrote them, in the order of its writes. Err: out of memory.
 fn standing(
     alloc: Global,
     window: Window,
     updates: &[Lent<'_>],
     update: &Lent<'_>,
 ) -> Result<Vec<u32>, AllocError>
-    ensures { IfOk result (λ numbers. (number : ℕ) → Contains numbers.items number ↔ Stands (those_surviving window updates.now) update.now number) }
+    ensures { IfOk result (λ numbers. AreStanding (those_surviving window updates.now) update.now numbers.items) }
 {
     let mut numbers = Vec::new(alloc);
     let mut writes = update.writes();
@@ -225,7 +225,7 @@ fn push_if_newest(
     number: u8,
     numbers: &mut Vec<u32>,
 ) -> Result<(), AllocError>
-    ensures { OnOk result (HasAdded numbers.old.items number (IsNewestOf (DecidesAt (Some number)) (those_surviving window updates.now) update.now) numbers.new.items) }
+    ensures { OnOk result (HasAdded numbers.old.items number (Stands (those_surviving window updates.now) update.now number) numbers.new.items) }
 {
     if is_newest(window, updates, update, Some(number)) {
         numbers.push(u32::from(number))?;

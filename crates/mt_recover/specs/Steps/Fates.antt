@@ -1,5 +1,5 @@
 -- Which updates survive, by where they come from, and which undo others.
-use Rattle.std.specs.Prelude.{◌≡◌, ◌<◌, ◌≤◌, ◌⊎◌, ◌↔◌, ℕ, Bool, true, Option, Some, None, List, Contains, filter}
+use Rattle.std.specs.Prelude.{◌≡◌, ◌<◌, ◌≤◌, ◌⊎◌, ◌++◌, ℕ, Bool, true, Option, Some, None, List, [], ◌∷◌, filter}
 use Rattle.std.specs.List.{flat_map}
 use Rattle.mt_words.specs.declared.update.Origin.{Origin}
 use Rattle.mt_words.specs.declared.update.Origin.TheVariants.{Log, Checkpoint}
@@ -54,4 +54,4 @@ pub record IsUndoneBy (window : Window) (number : Option ℕ) (u other : Update)
 
 -- the numbers are as before, and this one more if `P` holds
 abbrev pub HasAdded : List ℕ → ℕ → Type 0 → List ℕ → Type 0
-HasAdded old number P new = (n : ℕ) → Contains new n ↔ (Contains old n ⊎ ((n ≡ number) × P))
+HasAdded old number P new = (P × (new ≡ old ++ number ∷ [])) ⊎ ((¬ P) × (new ≡ old))
