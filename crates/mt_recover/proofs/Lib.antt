@@ -22,6 +22,7 @@ pub mod Assembles
 pub mod Replays
 pub mod TaskLemmas
 pub mod Works
+pub mod Filling
 pub mod HistoryLemmas
 pub mod Turns
 pub mod Sending

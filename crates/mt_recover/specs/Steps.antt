@@ -7,3 +7,4 @@ pub mod Preparing
 pub mod Replaying
 pub mod Fates
 pub mod Holes
+pub mod Batches

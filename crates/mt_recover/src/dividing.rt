@@ -113,8 +113,8 @@ impl Model for Dividing {
 }
 
 impl Dividing {
-    /// Makes the tasks that divide what was found: one for each of at most so many batches as there are workers. They cut
-    /// its keys into at most `most` pieces. Err: out of memory.
+    /// Makes the tasks that divide what was found: at most one for each worker. They cut its keys into at most `most`
+    /// pieces. Err: out of memory.
     pub(crate) fn of(
         alloc: Global,
         found: Found,
@@ -124,6 +124,8 @@ impl Dividing {
         requires { IsFound found }
         ensures dividing { (logs parts : List (List ℕ)) → IsFoundOf logs parts found → IfOk result (λ made. IsDividingOf logs parts made.0) }
         ensures tasks { IfOk result (λ made. made.1.items ≡ divide_tasks made.0) }
+        ensures few { IfOk result (λ made. length made.1.items ≤ workers) }
+        ensures pieces { IfOk result (λ made. length made.0.cuts < most) }
     {
         let window = found.start.window;
         let (report, scans, chosen) = Report::of(alloc, found)?;

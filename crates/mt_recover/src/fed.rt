@@ -1,5 +1,5 @@
 //! Recovery of logs and checkpoint parts that the caller reads and feeds itself.
-ghost use Rattle.std.specs.Prelude.{◌≡◌, ◌++◌, [], ◌∷◌, List, ℕ, Some, None, IfOk, OnOk, OnErr, All, IsSome};
+ghost use Rattle.std.specs.Prelude.{◌≡◌, ◌<◌, ◌≤◌, ◌++◌, [], ◌∷◌, List, ℕ, Some, None, length, IfOk, OnOk, OnErr, All, IsSome};
 ghost use Rattle.mt_record.specs.LogFeeding.{IsLogFed};
 ghost use Rattle.mt_record.specs.PartFeeding.{IsPartFed};
 ghost use Rattle.mt_recover.specs.Fed.{Input, AreFed, seen_fed};
@@ -110,10 +110,9 @@ impl Fed {
         recover_scanned(alloc, outcomes)
     }
 
-    /// Begins the same recovery for threads of the caller. It has a task for each of at most so many batches of updates
-    /// as there are workers, and cuts the keys into at most `most` pieces. Once all tasks are done, `Dividing::replay`
-    /// makes those of the second step, and then `Replaying::finish` makes the store. Neither the workers nor the
-    /// pieces change the result.
+    /// Begins the same recovery for threads of the caller. It has at most one task for each worker, and cuts the keys into
+    /// at most `most` pieces. Once all tasks are done, `Dividing::replay` makes those of the second step, and then
+    /// `Replaying::finish` makes the store. Neither the workers nor the pieces change the result.
     ///
     /// Err: the same as for `recover`.
     pub fn divide(
@@ -124,6 +123,8 @@ impl Fed {
     ) -> Result<(Dividing, Vec<DivideTask>), Fault>
         ensures divided { (logs parts : List Input) → AreFed logs parts self → IsAnswerFrom seen_fed logs parts (λ ls ps made. IsDividingOf ls ps made.0) result }
         ensures tasks { IfOk result (λ made. made.1.items ≡ divide_tasks made.0) }
+        ensures few { IfOk result (λ made. length made.1.items ≤ workers) }
+        ensures pieces { IfOk result (λ made. length made.0.cuts < most) }
         ensures whole { (logs parts : List Input) → AreFed logs parts self → OnOk result (All IsSome logs × All IsSome parts) }
     {
         let Fed { outcomes } = self;
@@ -144,6 +145,8 @@ fn divide_scanned(
     requires { (logs parts : List Seen) × AreOutcomes logs parts outcomes }
     ensures divided { (logs parts : List Seen) → AreOutcomes logs parts outcomes → IsAnswerFrom (λ seen. seen) logs parts (λ ls ps made. IsDividingOf ls ps made.0) result }
     ensures tasks { IfOk result (λ made. made.1.items ≡ divide_tasks made.0) }
+    ensures few { IfOk result (λ made. length made.1.items ≤ workers) }
+    ensures pieces { IfOk result (λ made. length made.0.cuts < most) }
     ensures whole { OnOk result (AreAllOk outcomes) }
 {
     let found = find(alloc, outcomes)?;

@@ -23,7 +23,7 @@ put_together-requires g c = (c.args.window, c.in_ok-batches.batches.items, done_
 
 -- so the updates that the scans kept are divided
 divided : (g : _) (c : goal.After-put_together g) → IfOk c.put_together.result (IsDividedOf c.args.window (kept c.args.scans.items) (joined c.args.entries.items))
-divided g c = subst (λ (us : List Update). IfOk c.put_together.result (IsDividedOf c.args.window us (joined c.args.entries.items))) c.in_ok-batches.ensures (c.put_together.ensures.divided c.args.window c.in_ok-batches.batches.items (done_are g c.before))
+divided g c = subst (λ (us : List Update). IfOk c.put_together.result (IsDividedOf c.args.window us (joined c.args.entries.items))) c.in_ok-batches.ensures.updates (c.put_together.ensures.divided c.args.window c.in_ok-batches.batches.items (done_are g c.before))
 
 pub returns-clause-divided : goal.returns-clause-divided
 returns-clause-divided g c = divided g c
@@ -34,7 +34,7 @@ returns-clause-cuts g c =
     let survivors : List Update = filter (in_window c.args.window) (kept c.args.scans.items) ++ entries in
     let cuts_are : AreCutBy c.args.cutting survivors c.in_ok-cuts.cuts =
     subst (λ (us : List Update). AreCutBy c.args.cutting us c.in_ok-cuts.cuts)
-    ((λ i. filter (in_window c.args.window) (batched (c.deref.ensures.value i)) ++ joined (c.deref-2.ensures.value i)) ∙ ap (λ (us : List Update). filter (in_window c.args.window) us ++ entries) c.in_ok-batches.ensures) c.in_ok-cuts.ensures in
+    ((λ i. filter (in_window c.args.window) (batched (c.deref.ensures.value i)) ++ joined (c.deref-2.ensures.value i)) ∙ ap (λ (us : List Update). filter (in_window c.args.window) us ++ entries) c.in_ok-batches.ensures.updates) c.in_ok-cuts.ensures in
     IfOk-weaker c.put_together.result _ _
     (λ division both. subst (AreCutBy c.args.cutting division.0.updates) (sym both.1) (cut_moved c.args.cutting survivors division.0.updates c.in_ok-cuts.cuts both.0.updates cuts_are))
     (both_ok c.put_together.result _ _ (divided g c) c.put_together.ensures.cuts)
