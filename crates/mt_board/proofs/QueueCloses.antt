@@ -39,7 +39,7 @@ module _ {J : Type 0} (q : QueueView J) where
   abbrev took_of : ℕ → ConsumerView J → ℕ
   took_of x c = times x c.taken
 
-  module _ (rest all : List (ConsumerView J)) (c : ConsumerView J) (t : TableId) (done : Bool) (w : Known J) (is : consumer_view t done w ≡ c) (one : w.numbers.parts ≡ 1) (done_is : w.numbers.done ≡ cond done 1 0) where
+  module _ (rest all : List (ConsumerView J)) (c : ConsumerView J) (t : TableId) (number : ℕ) (done : Bool) (w : Known J) (is : consumer_view t number done w ≡ c) (one : w.numbers.parts ≡ 1) (done_is : w.numbers.done ≡ cond done 1 0) where
     same_taken : (x : ℕ) → times x w.numbers.draws ≡ times x c.taken
     same_taken x = ap (took_of x) is
 
@@ -48,7 +48,7 @@ module _ {J : Type 0} (q : QueueView J) where
 
     pub gathers_first : w.numbers.counts.total ≡ length w.jobs → All IsOwn all → all ≡ rest ++ c ∷ [] → GathersJobs rest all w
     gathers_first total own e =
-        let queue : (consumer_view t done w).queue ≡ q = ap (λ (v : ConsumerView J). v.queue) is ∙ last_own all rest c own e in
+        let queue : (consumer_view t number done w).queue ≡ q = ap (λ (v : ConsumerView J). v.queue) is ∙ last_own all rest c own e in
         let jobs : w.jobs ≡ q.jobs = ap (λ (v : QueueView J). v.jobs) queue in record {
           some = omega (arith, one);
           jobs = jobs;

@@ -3,6 +3,7 @@ use Rattle.std.proofs.Common.{◌≡◌, ℕ, zero, suc, ◌+◌, ◌%◌, ◌^�
 use Rattle.std.specs.List.{All}
 use Rattle.std.proofs.lemmas.Bool.Decides.{nat_tests}
 use Rattle.std.proofs.lemmas.List.{map-set, map_push}
+use Rattle.std.proofs.lemmas.List.Elements.{All-nil, All-push}
 use mathlib.Core.Option.{none, some, some-injective, some-ne-none}
 use mathlib.Core.Option as core_option
 use lib.ListN.{get_elem?}
@@ -12,7 +13,7 @@ use Rattle.mt_board.specs.declared.known.Known.{Known}
 use Rattle.mt_board.specs.declared.view.Counts.{Counts}
 use Rattle.mt_board.specs.declared.view.SeatView.{SeatView}
 use Rattle.mt_board.specs.Board.{times, once_below, nothing_noted}
-use Rattle.mt_board.specs.Queue.{QueueView}
+use Rattle.mt_board.specs.Queue.{ConsumerView, QueueView, fresh_consumer, fresh_consumers}
 use Rattle.mt_board.specs.Steps.Rule.{IsBoardState, IsIdle, both_views, drew, one_part, parts_in, spent_view, without_one}
 use Rattle.atomic_table.specs.Seated.{TableId}
 use Rattle.mt_board.specs.Steps.QueueRule.{IsConsumer, IsQueue, Rests, Takes, Tells, both_known, consumer_view, counts_of, first_known, nothing_known, numbers_of, one_consumer, without_one_consumer}
@@ -258,15 +259,14 @@ drew_past found v le =
     let is : ltb found v.counts.total ≡ false = grind (arith, nat_tests) in
     ap (λ (b : Bool). cond b (record v { draws = v.draws ++ found ∷ [] }) (record v { done = v.done + 1 })) is
 
-module _ {J : Type 0} (me me' : Me (Option J) (Known J)) (found number : ℕ) (is : IsConsumer number false me) (view : me'.0 ≡ record me.0 { numbers = drew found me.0.numbers }) where
+module _ {J : Type 0} (me me' : Me (Option J) (Known J)) (found : ℕ) (is : IsConsumer false me) (view : me'.0 ≡ record me.0 { numbers = drew found me.0.numbers }) where
   module _ (lt : found < me.0.numbers.counts.total) where
     took_known : me'.0 ≡ record me.0 { numbers = record me.0.numbers { draws = me.0.numbers.draws ++ found ∷ [] } }
     took_known = view ∙ (λ i. record me.0 { numbers = drew_below found me.0.numbers lt i })
 
     -- a consumer that took a job is one
-    pub took : (x : Option J) → me'.1 ≡ (found, x) ∷ [] → IsConsumer number false me'
-    took x holds = subst (IsConsumer number false) (λ i. (sym took_known i, sym holds i)) (record {
-      numbered = is.numbered;
+    pub took : (x : Option J) → me'.1 ≡ (found, x) ∷ [] → IsConsumer false me'
+    took x holds = subst (IsConsumer false) (λ i. (sym took_known i, sym holds i)) (record {
       one = is.one;
       done_is = is.done_is;
       total = is.total;
@@ -279,17 +279,16 @@ module _ {J : Type 0} (me me' : Me (Option J) (Known J)) (found number : ℕ) (i
         own (suc k) d short = absurd (omega (arith, short))
 
     -- it took this number besides
-    pub took_view : (t : TableId) (done : Bool) → consumer_view t done me'.0 ≡ record (consumer_view t done me.0) { taken = me.0.numbers.draws ++ found ∷ [] }
-    took_view t done = ap (consumer_view t done) took_known
+    pub took_view : (t : TableId) (number : ℕ) (done : Bool) → consumer_view t number done me'.0 ≡ record (consumer_view t number done me.0) { taken = me.0.numbers.draws ++ found ∷ [] }
+    took_view t number done = ap (consumer_view t number done) took_known
 
   module _ (le : me.0.numbers.counts.total ≤ found) where
     ended_known : me'.0 ≡ record me.0 { numbers = record me.0.numbers { done = me.0.numbers.done + 1 } }
     ended_known = view ∙ (λ i. record me.0 { numbers = drew_past found me.0.numbers le i })
 
     -- a consumer that found no job left has ended
-    pub ended : me'.1 ≡ [] → IsConsumer number true me'
-    ended holds = subst (IsConsumer number true) (λ i. (sym ended_known i, sym holds i)) (record {
-      numbered = is.numbered;
+    pub ended : me'.1 ≡ [] → IsConsumer true me'
+    ended holds = subst (IsConsumer true) (λ i. (sym ended_known i, sym holds i)) (record {
       one = is.one;
       done_is = omega (arith, is.done_is);
       total = is.total;
@@ -298,8 +297,8 @@ module _ {J : Type 0} (me me' : Me (Option J) (Known J)) (found number : ℕ) (i
     })
 
     -- it took nothing besides
-    pub ended_view : (t : TableId) (done : Bool) → consumer_view t true me'.0 ≡ record (consumer_view t done me.0) { done = true }
-    ended_view t done = ap (consumer_view t true) ended_known
+    pub ended_view : (t : TableId) (number : ℕ) (done : Bool) → consumer_view t number true me'.0 ≡ record (consumer_view t number done me.0) { done = true }
+    ended_view t number done = ap (consumer_view t number true) ended_known
 
 -- what a seat holds first
 pub held : {A : Type 0} (l m : List (ℕ × A)) (n : ℕ) (x : A) → l ≡ (n, x) ∷ m → l ≡ (n, x) ∷ rest l
@@ -319,3 +318,18 @@ below_total mine queue total count found same is whole lt = omega (arith, ap (λ
 
 pub past_total : {J : Type 0} (mine queue : QueueView J) (total count found : ℕ) → mine ≡ queue → total ≡ length mine.jobs → count ≡ length queue.jobs → count ≤ found → total ≤ found
 past_total mine queue total count found same is whole le = omega (arith, ap (λ q. length q.jobs) same, is, whole, le)
+
+-- one more consumer of a new queue
+pub consumers_more : {J : Type 0} (queue : QueueView J) (n : ℕ) → fresh_consumers queue (n + 1) ≡ fresh_consumers queue n ++ fresh_consumer queue n ∷ []
+consumers_more queue n = let e : n + 1 ≡ suc n = omega arith in ap (fresh_consumers queue) e
+
+-- the consumers of a new queue are fresh
+pub all_fresh : {J : Type 0} (queue : QueueView J) (n : ℕ) (consumers : List (ConsumerView J)) → consumers ≡ fresh_consumers queue n → All (λ consumer. consumer ≡ fresh_consumer queue consumer.number) consumers
+all_fresh {J} queue n consumers are = subst (All IsFresh) (sym are) (by n)
+  where
+    IsFresh : ConsumerView J → Type 0
+    IsFresh consumer = consumer ≡ fresh_consumer queue consumer.number
+
+    by : (n : ℕ) → All IsFresh (fresh_consumers queue n)
+    by zero = All-nil IsFresh
+    by (suc n) = All-push IsFresh (fresh_consumers queue n) (fresh_consumer queue n) (by n) refl

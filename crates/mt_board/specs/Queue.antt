@@ -1,5 +1,5 @@
 -- The values and facts that the contracts of a queue and its consumers speak of.
-use Rattle.std.specs.Prelude.{◌≡◌, ℕ, ◌<◌, Bool, false, List, [], length, sum_by, count_by, All, IsTrue}
+use Rattle.std.specs.Prelude.{◌≡◌, ℕ, zero, suc, ◌<◌, Bool, false, List, [], ◌∷◌, ◌++◌, length, sum_by, count_by, All, IsTrue}
 use Rattle.atomic_table.specs.Seated.{TableId}
 use Rattle.mt_board.specs.Board.{once_below, times}
 
@@ -9,17 +9,23 @@ pub record QueueView (J : Type 0) : Type 0 where
   pub jobs : List J
   pub consumers : ℕ
 
--- a consumer: its queue, and what it did
+-- a consumer of this queue: which one it is, and what it did
 pub record ConsumerView (J : Type 0) : Type 0 where
   pub queue : QueueView J
+  pub number : ℕ
   -- the numbers of the jobs that it took, in order
   pub taken : List ℕ
   -- whether it found that no job is left
   pub done : Bool
 
 -- a consumer that has taken nothing
-abbrev pub fresh_consumer : {J : Type 0} → QueueView J → ConsumerView J
-fresh_consumer queue = record { queue = queue; taken = []; done = false }
+abbrev pub fresh_consumer : {J : Type 0} → QueueView J → ℕ → ConsumerView J
+fresh_consumer queue number = record { queue = queue; number = number; taken = []; done = false }
+
+-- the first n consumers of a new queue, in order of their numbers
+abbrev pub fresh_consumers : {J : Type 0} → QueueView J → ℕ → List (ConsumerView J)
+fresh_consumers queue zero = []
+fresh_consumers queue (suc n) = fresh_consumers queue n ++ fresh_consumer queue n ∷ []
 
 -- how often the consumers took job x
 abbrev pub times_taken : {J : Type 0} → ℕ → List (ConsumerView J) → ℕ

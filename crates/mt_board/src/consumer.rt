@@ -1,5 +1,5 @@
 //! Consumers: the right to take jobs from a queue.
-ghost use Rattle.std.specs.Prelude.{◌<◌};
+ghost use Rattle.std.specs.Prelude.{◌≡◌};
 
 use crate::known::Known;
 use atomic_table::Seat;
@@ -24,15 +24,15 @@ impl<J: Drop> Model for Consumer<J> {
 
     ghost use Rattle.mt_board.specs.Steps.QueueRule.{consumer_view, IsConsumer};
 
-    ghost view = { λ c. consumer_view c.seat.table_id c.done c.seat.me.0 };
+    ghost view = { λ c. consumer_view c.seat.table_id c.number c.done c.seat.me.0 };
 
-    ghost invariant = { λ c. IsConsumer c.number c.done c.seat.me };
+    ghost invariant = { λ c. IsConsumer c.done c.seat.me };
 }
 
 impl<J: Drop> Consumer<J> {
     /// Returns its number among the consumers of its queue, counted from 0.
     pub fn number(&self) -> u32
-        ensures { result < self.now.queue.consumers }
+        ensures { result ≡ self.now.number }
     {
         self.number
     }

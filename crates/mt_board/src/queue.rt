@@ -1,6 +1,6 @@
 //! A queue of jobs that threads take, each once.
 ghost use Rattle.std.specs.Prelude.{◌≡◌, ◌<◌, ◌++◌, [], ◌∷◌, true, length, slice_get, All, IfOk, IfSome, IsTrue, MatchOption, None, Some};
-ghost use Rattle.mt_board.specs.Queue.{AreBack, TookEach, fresh_consumer};
+ghost use Rattle.mt_board.specs.Queue.{AreBack, TookEach, fresh_consumer, fresh_consumers};
 
 use crate::consumer::Consumer;
 use crate::known::{Known, Opening, QueueRule, Rest, ShareJobs, Take, Tell};
@@ -33,7 +33,7 @@ impl<J: Drop> Model for Queue<J> {
 }
 
 impl<J: Drop> Queue<J> {
-    /// Creates a queue of these jobs, and returns it with this number of consumers. Err: out of memory.
+    /// Creates a queue of these jobs, and returns it with its consumers, in order of their numbers. Err: out of memory.
     pub fn open(
         alloc: Global,
         jobs: Vec<J>,
@@ -41,8 +41,8 @@ impl<J: Drop> Queue<J> {
     ) -> Result<(Queue<J>, Vec<Consumer<J>>), AllocError>
         ensures jobs { IfOk result (λ opened. opened.0.jobs ≡ jobs.items) }
         ensures many { IfOk result (λ opened. opened.0.consumers ≡ consumers) }
-        ensures consumers { IfOk result (λ opened. All (λ consumer. consumer ≡ fresh_consumer opened.0) opened.1.items) }
-        ensures count { IfOk result (λ opened. length opened.1.items ≡ consumers) }
+        ensures consumers { IfOk result (λ opened. opened.1.items ≡ fresh_consumers opened.0 consumers) }
+        ensures fresh { IfOk result (λ opened. All (λ consumer. consumer ≡ fresh_consumer opened.0 consumer.number) opened.1.items) }
     {
         let opening = Opening {
             jobs: Snapshot::of(&jobs),

@@ -4,13 +4,13 @@ use Rattle.std.specs.Prelude.{nat_eq, slice_index_or}
 use Rattle.std.specs.List.{All, count_by, enumerate_from, flat_map}
 use Rattle.std.specs.List.Sorted.{IsNonDecreasingBy}
 use Rattle.std.proofs.lemmas.Bool.Decides.{nat_tests}
-use Rattle.std.proofs.lemmas.List.{length-map, map-append}
+use Rattle.std.proofs.lemmas.List.{length-map, length_push, map-append}
 use Rattle.std.proofs.lemmas.List.Concat.{flat_map-cons}
 use Rattle.std.proofs.lemmas.List.Elements.{All-head, All-map, All-tail, All-weaker}
 use Rattle.std.proofs.lemmas.List.Sorted.{IsPermutation-map, sum_by-IsPermutation}
 use Rattle.std.proofs.lemmas.List.Sums.{sum_by-append, sum_by-cons}
 use Rattle.mt_board.specs.Board.{once_below, times}
-use Rattle.mt_board.specs.Queue.{AreBack, ConsumerView, QueueView, TookEach, times_taken}
+use Rattle.mt_board.specs.Queue.{AreBack, ConsumerView, fresh_consumer, fresh_consumers, QueueView, TookEach, times_taken}
 use Rattle.mt_recover.specs.Steps.Scanning.{AreNumbered, IsTurnOf}
 
 -- ---- numbers
@@ -65,19 +65,24 @@ all_back {Y} {J} queue items consumer turns all many some = record {
   ended = one_ended queue items consumer turns all (omega (arith, many, some));
 }
 
+-- a new queue has as many consumers as were asked for
+pub fresh_count : {J : Type 0} (queue : QueueView J) (n : ℕ) → length (fresh_consumers queue n) ≡ n
+fresh_count queue zero = refl
+fresh_count queue (suc n) = omega (arith, length_push (fresh_consumers queue n) (fresh_consumer queue n), fresh_count queue n)
+
 -- one more job, after those of this turn
-pub took_on : {J X : Type 0} (queue : QueueView J) (now next : ConsumerView J) (answers after : List (ℕ × X)) (n : ℕ) (x : X) → now ≡ record { queue = queue; taken = numbers answers; done = false } → next ≡ record now { taken = now.taken ++ n ∷ [] } → after ≡ answers ++ (n, x) ∷ []
-    → next ≡ record { queue = queue; taken = numbers after; done = false }
+pub took_on : {J X : Type 0} (queue : QueueView J) (now next : ConsumerView J) (answers after : List (ℕ × X)) (n : ℕ) (x : X) → now ≡ record { queue = queue; number = now.number; taken = numbers answers; done = false } → next ≡ record now { taken = now.taken ++ n ∷ [] } → after ≡ answers ++ (n, x) ∷ []
+    → next ≡ record { queue = queue; number = next.number; taken = numbers after; done = false }
 took_on {J} {X} queue now next answers after n x was is more =
     is
     ∙ ap (λ (c : ConsumerView J). record c { taken = c.taken ++ n ∷ [] }) was
-    ∙ ap (λ (l : List ℕ). record { queue = queue; taken = l; done = false }) (sym (map-append (λ (one : ℕ × X). one.0) answers ((n, x) ∷ [])) ∙ ap (λ (l : List (ℕ × X)). numbers l) (sym more))
+    ∙ (λ i. record { queue = queue; number = (sym is i).number; taken = (sym (map-append (λ (one : ℕ × X). one.0) answers ((n, x) ∷ [])) ∙ ap (λ (l : List (ℕ × X)). numbers l) (sym more)) i; done = false })
 
 -- the turn is over once no job is left
-pub turn_ends : {J X : Type 0} (queue : QueueView J) (now next : ConsumerView J) (answers : List (ℕ × X)) → now ≡ record { queue = queue; taken = numbers answers; done = false } → next ≡ record now { done = true }
+pub turn_ends : {J X : Type 0} (queue : QueueView J) (now next : ConsumerView J) (answers : List (ℕ × X)) → now ≡ record { queue = queue; number = now.number; taken = numbers answers; done = false } → next ≡ record now { done = true }
     → IsTurnOf queue answers next
 turn_ends {J} queue now next answers was is =
-    let end : next ≡ record { queue = queue; taken = numbers answers; done = true } = is ∙ ap (λ (c : ConsumerView J). record c { done = true }) was in
+    let end : next ≡ record { queue = queue; number = now.number; taken = numbers answers; done = true } = is ∙ ap (λ (c : ConsumerView J). record c { done = true }) was in
     record { taken = sym (ap (λ (c : ConsumerView J). c.taken) end); ended = (ap (λ (c : ConsumerView J). c.queue) end, ap (λ (c : ConsumerView J). c.done) end) }
 
 -- ---- sorted numbers

@@ -35,7 +35,7 @@ pub(crate) fn by_workers<R: Threads + Sync, J: Send + Drop, X: Send + Drop, F: F
         consumers,
         workers,
         &|consumer: Consumer<J>| -> Result<Turn<J, X>, Memory>
-            requires { (consumer ≡ fresh_consumer queue) × All (λ job. F.pre work.now job) queue.jobs }
+            requires { (consumer ≡ fresh_consumer queue consumer.number) × All (λ job. F.pre work.now job) queue.jobs }
             ensures { IfOk result (λ turn. IsTurnOf queue turn.0.items turn.1 × AreAnswers (λ _ job answer. F.post work.entry.now job answer) queue.jobs turn.0.items) }
         { work_off(alloc, &queue, consumer, work) },
     )?;
@@ -52,7 +52,7 @@ fn work_off<J: Drop, X: Drop, F: Fn(J) -> X>(
     consumer: Consumer<J>,
     work: &F,
 ) -> Result<Turn<J, X>, Memory>
-    requires fresh { consumer ≡ fresh_consumer queue.now }
+    requires fresh { consumer ≡ fresh_consumer queue.now consumer.number }
     requires each { All (λ job. F.pre work.now job) queue.now.jobs }
     ensures turn { IfOk result (λ turn. IsTurnOf queue.now turn.0.items turn.1) }
     ensures answers { IfOk result (λ turn. AreAnswers (λ _ job answer. F.post work.now job answer) queue.now.jobs turn.0.items) }

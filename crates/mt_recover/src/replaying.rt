@@ -51,7 +51,7 @@ impl Model for ReplayTask {
 
     ghost view = { λ t. task_of (arc_value t.base) };
 
-    ghost invariant = { λ t. (t.consumer ≡ fresh_consumer (arc_value t.base).pieces) × AreRanges (arc_value t.base).cuts (arc_value t.base).pieces.jobs };
+    ghost invariant = { λ t. (t.consumer ≡ fresh_consumer (arc_value t.base).pieces t.consumer.number) × AreRanges (arc_value t.base).cuts (arc_value t.base).pieces.jobs };
 }
 
 impl ReplayTask {
@@ -169,7 +169,7 @@ fn tasks_of(
     consumers: Vec<Consumer<Range>>,
     base: &Arc<Base>,
 ) -> Result<Vec<ReplayTask>, Memory>
-    requires fresh { All (λ consumer. consumer ≡ fresh_consumer (arc_value base.now).pieces) consumers.items }
+    requires fresh { All (λ consumer. consumer ≡ fresh_consumer (arc_value base.now).pieces consumer.number) consumers.items }
     requires ranges { AreRanges (arc_value base.now).cuts (arc_value base.now).pieces.jobs }
     ensures { IfOk result (λ tasks. tasks.items ≡ map (λ _. task_of (arc_value base.now)) consumers.items) }
 {
@@ -189,7 +189,7 @@ fn replay_pieces<G: Gate>(
     consumer: Consumer<Range>,
     gate: &G,
 ) -> Result<Turn<Range, Draft>, Memory>
-    requires fresh { consumer ≡ fresh_consumer base.now.pieces }
+    requires fresh { consumer ≡ fresh_consumer base.now.pieces consumer.number }
     requires ranges { AreRanges base.now.cuts base.now.pieces.jobs }
     ensures { IfOk result (λ turn. AreReplaysOf (task_of base.now) turn.0.items turn.1) }
 {

@@ -11,7 +11,7 @@ use Rattle.mt_board.specs.Board.{nothing_noted, once_below, times}
 use Rattle.mt_board.specs.Queue.{ConsumerView}
 use Rattle.mt_board.specs.Steps.Rule.{IsBoardState, both_views, drew, first_view, one_part, spent_view, without_one}
 
--- the numbers of these jobs, for so many consumers
+-- the counts of a queue with these jobs and this number of consumers
 abbrev pub counts_of : {J : Type 0} → List J → ℕ → Counts
 counts_of jobs consumers = record { total = length jobs; passes = consumers }
 
@@ -65,16 +65,16 @@ abbrev pub nothing_known : {J : Type 0} → Known J
 nothing_known = record { jobs = []; numbers = spent_view }
 
 -- a consumer with this seat, as contracts see it
-abbrev pub consumer_view : {J : Type 0} → TableId → Bool → Known J → ConsumerView J
-consumer_view t done known = record {
+abbrev pub consumer_view : {J : Type 0} → TableId → ℕ → Bool → Known J → ConsumerView J
+consumer_view t number done known = record {
   queue = record { table = t; jobs = known.jobs; consumers = known.numbers.counts.passes };
+  number = number;
   taken = known.numbers.draws;
   done = done;
 }
 
 -- the slots that a seat holds are those of jobs that it took: at most one, and none once it found that no job is left
-pub record IsConsumer {J : Type 0} (number : ℕ) (done : Bool) (me : Me (Option J) (Known J)) : Type 0 where
-  pub numbered : number < me.0.numbers.counts.passes
+pub record IsConsumer {J : Type 0} (done : Bool) (me : Me (Option J) (Known J)) : Type 0 where
   pub one : me.0.numbers.parts ≡ 1
   pub done_is : me.0.numbers.done ≡ (if done then 1 else 0)
   pub total : me.0.numbers.counts.total ≡ length me.0.jobs

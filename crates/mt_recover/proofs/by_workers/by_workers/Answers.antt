@@ -1,4 +1,4 @@
-use Rattle.std.proofs.Common.{rules, ◌∙◌, ℕ, List, Vec, Global, sym, arith, subst}
+use Rattle.std.proofs.Common.{rules, ◌∙◌, ℕ, List, Vec, Global, length, sym, ap, arith, subst}
 use Rattle.std.specs.Prelude.{IfOk}
 use Rattle.std.specs.List.{AllZip, flat_map}
 use Rattle.std.proofs.lemmas.Result.{IfOk-weaker}
@@ -6,7 +6,12 @@ use Rattle.std.proofs.lemmas.List.Elements.{All-weaker}
 use Rattle.mt_board.specs.Queue.{ConsumerView}
 use Rattle.mt_recover.specs.Steps.Scanning.{AreAnswers, IsTurnOf}
 use Rattle.mt_recover.proofs.SharingLemmas.{all_answers, all_in_order, all_of_zip, without_numbers, zip_says}
+use Rattle.mt_recover.proofs.Turns.{fresh_count}
 use Rattle.mt_recover.proofs.by_workers.by_workers.Goals as goal
+
+pub on_threads-requires-clause-few : goal.on_threads-requires-clause-few
+on_threads-requires-clause-few g c =
+    omega (arith, ap length c.in_ok-queue.ensures.consumers, fresh_count c.in_ok-queue.queue c.max-most.result, c.max-most.ensures, c.min.ensures, c.count.ensures.value, c.count.ensures.some)
 
 pub answers_of-requires : goal.answers_of-requires
 answers_of-requires g c =
@@ -17,7 +22,7 @@ answers_of-requires g c =
     let all = all_of_zip P c.in_ok-queue.consumers.items c.in_ok-turns.turns.items c.in_ok-all_done.field-0.items zip c.in_ok-all_done.ensures.done in
     record {
       turns = All-weaker P (λ turn. IsTurnOf queue turn.0.items turn.1) (λ turn is. is.0) c.in_ok-all_done.field-0.items all.0;
-      all = all.1 ∙ c.in_ok-queue.ensures.count ∙ sym c.in_ok-queue.ensures.many;
+      all = all.1 ∙ ap length c.in_ok-queue.ensures.consumers ∙ fresh_count queue _ ∙ sym c.in_ok-queue.ensures.many;
       some = omega (arith, c.in_ok-queue.ensures.many, c.max-most.ensures, c.min.ensures, c.count.ensures.value);
     }
 

@@ -6,7 +6,7 @@ use Rattle.mt_recover.proofs.by_workers.work_off.Given as goal
 -- the jobs that the consumer took are done
 abbrev pub invariant-loop-number : goal.invariant-loop-number
 invariant-loop-number g l = record {
-  consumer : l.consumer ≡ record { queue = l.queue; taken = map (λ one. one.0) l.answers.items; done = false };
+  consumer : l.consumer ≡ record { queue = l.queue; number = l.consumer.number; taken = map (λ one. one.0) l.answers.items; done = false };
   answers : AreAnswers (λ _ job answer. goal.F-post g l.work job answer) l.queue.jobs l.answers.items;
 }
 

@@ -8,7 +8,7 @@ use Rattle.mt_recover.proofs.replaying.replay_pieces.Given as goal
 -- the pieces that the consumer took are replayed
 abbrev pub invariant-loop-number : goal.invariant-loop-number
 invariant-loop-number g l = record {
-  consumer : l.consumer ≡ record { queue = l.base.pieces; taken = map (λ one. one.0) l.drafts.items; done = false };
+  consumer : l.consumer ≡ record { queue = l.base.pieces; number = l.consumer.number; taken = map (λ one. one.0) l.drafts.items; done = false };
   answers : AreAnswers (λ piece range draft. IsReplayOf (task_of l.base).cuts (task_of l.base).entries piece range (layer_walk draft)) l.base.pieces.jobs l.drafts.items;
 }
 

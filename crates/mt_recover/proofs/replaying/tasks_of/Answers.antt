@@ -15,14 +15,14 @@ loop-consumer-init c =
     record {
       rest = given;
       tasks = c.in_ok-tasks.ensures.items;
-      left = subst (All (λ consumer. consumer ≡ fresh_consumer (arc_value c.args.base.now).pieces)) (sym given) c.requires.fresh;
+      left = subst (All (λ consumer. consumer ≡ fresh_consumer (arc_value c.args.base.now).pieces consumer.number)) (sym given) c.requires.fresh;
     }
 
 pub invariant_of-push : goal.invariant_of-push
 invariant_of-push c =
     let own = arc_value c.args.base.now in
-    let left = subst (All (λ consumer. consumer ≡ fresh_consumer own.pieces)) c.in-Some.ensures.steps.0 c.loop-consumer.invariant.left in (
-      All-head (λ consumer. consumer ≡ fresh_consumer own.pieces) c.in-Some.consumer (into_iter_items c.next.new.self) left ∙ ap (λ (base : Base). fresh_consumer base.pieces) (sym c.in_ok-base.ensures),
+    let left = subst (All (λ consumer. consumer ≡ fresh_consumer own.pieces consumer.number)) c.in-Some.ensures.steps.0 c.loop-consumer.invariant.left in (
+      All-head (λ consumer. consumer ≡ fresh_consumer own.pieces consumer.number) c.in-Some.consumer (into_iter_items c.next.new.self) left ∙ ap (λ (base : Base). fresh_consumer base.pieces c.in-Some.consumer.number) (sym c.in_ok-base.ensures),
       subst (λ (base : Base). AreRanges base.cuts base.pieces.jobs) (sym c.in_ok-base.ensures) c.requires.ranges,
     )
 
@@ -35,5 +35,5 @@ loop-consumer-preserved c =
       tasks = c.in_ok-push.ensures.items
           ∙ (λ i. I.tasks i ++ task_of (c.in_ok-base.ensures i) ∷ [])
           ∙ sym (map_push (λ _. task_of own) c.loop-consumer.yielded c.in-Some.consumer);
-      left = All-tail (λ consumer. consumer ≡ fresh_consumer own.pieces) c.in-Some.consumer (into_iter_items c.next.new.self) (subst (All (λ consumer. consumer ≡ fresh_consumer own.pieces)) c.in-Some.ensures.steps.0 I.left);
+      left = All-tail (λ consumer. consumer ≡ fresh_consumer own.pieces consumer.number) c.in-Some.consumer (into_iter_items c.next.new.self) (subst (All (λ consumer. consumer ≡ fresh_consumer own.pieces consumer.number)) c.in-Some.ensures.steps.0 I.left);
     }

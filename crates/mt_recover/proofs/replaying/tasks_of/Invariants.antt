@@ -11,5 +11,5 @@ abbrev pub invariant-loop-consumer : goal.invariant-loop-consumer
 invariant-loop-consumer l = record {
   rest : l.yielded ++ into_iter_items l.consumer-iterator ≡ l.fn.consumers.items;
   tasks : l.tasks.items ≡ map (λ _. task_of (arc_value l.base)) l.yielded;
-  left : All (λ consumer. consumer ≡ fresh_consumer (arc_value l.base).pieces) (into_iter_items l.consumer-iterator);
+  left : All (λ consumer. consumer ≡ fresh_consumer (arc_value l.base).pieces consumer.number) (into_iter_items l.consumer-iterator);
 }

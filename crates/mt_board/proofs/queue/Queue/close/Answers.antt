@@ -14,7 +14,7 @@ loop-consumer-init g c =
     let own = last_own q _ _ _ c.requires.each c.in-Some.ensures.items in
     record {
       same = ap (λ (v : ConsumerView g.row.J.Denot). v.queue.table) c.last.view_is ∙ ap (λ (q : QueueView g.row.J.Denot). q.table) own;
-      gathers = gathers_first q c.pop.new.self.items c.args.consumers.items c.in-Some.last _ _ _ c.last.view_is is.one is.done_is is.total c.requires.each c.in-Some.ensures.items;
+      gathers = gathers_first q c.pop.new.self.items c.args.consumers.items c.in-Some.last _ _ _ _ c.last.view_is is.one is.done_is is.total c.requires.each c.in-Some.ensures.items;
     }
 
 pub load-requires : goal.load-requires
@@ -49,7 +49,7 @@ loop-consumer-preserved g c =
     record {
       same = c.join_seat.ensures.0 ∙ I.same;
       gathers = subst (λ (m : Me (Option g.row.J.Denot) (Known g.row.J.Denot)). GathersJobs q c.pop-in-loop-consumer.new.self.items c.args.consumers.items m.0) (sym joined)
-          (gathers_more q c.pop-in-loop-consumer.new.self.items c.args.consumers.items c.in-Some-pop.consumer _ _ c.consumer.inside.seat.me.0 c.consumer.view_is is.one is.done_is c.loop-consumer.seat.me.0 c.loop-consumer.consumers.items I.gathers c.in-Some-pop.ensures.items);
+          (gathers_more q c.pop-in-loop-consumer.new.self.items c.args.consumers.items c.in-Some-pop.consumer _ _ _ c.consumer.inside.seat.me.0 c.consumer.view_is is.one is.done_is c.loop-consumer.seat.me.0 c.loop-consumer.consumers.items I.gathers c.in-Some-pop.ensures.items);
     }
 
 pub load-requires-2 : goal.load-requires-2

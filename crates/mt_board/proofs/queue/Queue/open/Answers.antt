@@ -1,15 +1,15 @@
-use Rattle.std.proofs.Common.{rules, tests, arith, ap, ◌∙◌, ◌≡◌, ◌-◌, ◌+◌, Option, Some, [], false}
+use Rattle.std.proofs.Common.{rules, tests, arith, ap, ◌∙◌, sym, subst, ℕ, ◌≡◌, ◌-◌, ◌+◌, Option, Some, [], ◌∷◌, ◌++◌, false}
 use Rattle.std.proofs.lemmas.Iterator.{items_from_collect, YieldsList-from_map}
 use Rattle.std.proofs.lemmas.Iterator.Consumers.{YieldsList-at}
 use Rattle.std.proofs.lemmas.Iterator.Adapters.{YieldsList-from_vec}
 use Rattle.std.proofs.lemmas.Result.{IfOk-at_ok}
-use Rattle.std.proofs.lemmas.List.Elements.{All-push}
+use Rattle.std.specs.List.{All}
 use Rattle.atomic_table.specs.Table.{Me}
 use Rattle.mt_board.specs.declared.known.Known.{Known}
-use Rattle.mt_board.specs.Queue.{QueueView, ConsumerView, fresh_consumer}
+use Rattle.mt_board.specs.Queue.{QueueView, fresh_consumer}
 use Rattle.mt_board.specs.Steps.Rule.{idle_view}
 use Rattle.mt_board.specs.Steps.QueueRule.{consumer_view, counts_of, one_consumer, without_one_consumer}
-use Rattle.mt_board.proofs.Queues.{opens, splits}
+use Rattle.mt_board.proofs.Queues.{all_fresh, consumers_more, opens, splits}
 use Rattle.mt_board.proofs.queue.Queue.open.Goals as goal
 
 pub new-requires : goal.new-requires
@@ -44,8 +44,17 @@ loop-number-preserved g c =
       same = c.split_seat-seat.ensures.0 ∙ I.same;
       view = c.split_seat-seat.ensures.2 ∙ (λ i. (without_one_consumer (first (I.view i)), (I.view i).1))
           ∙ (λ i. (record { jobs = queue.jobs; numbers = idle_view (counts_of queue.jobs c.args.consumers) (fewer i) }, []));
-      dealt = rw c.push_reserved.ensures.items (All-push (λ (consumer : ConsumerView g.row.J.Denot). consumer ≡ fresh_consumer queue) c.loop-number.dealt.items _ I.dealt
-          (λ i. consumer_view ((c.split_seat-seat.ensures.3 ∙ I.same) i) false (first ((c.split_seat-seat.ensures.4 ∙ (λ j. (one_consumer (first (I.view j)), []))) i))));
+      dealt = c.push_reserved.ensures.items
+          ∙ (λ i. I.dealt i ++ consumer_view ((c.split_seat-seat.ensures.3 ∙ I.same) i) c.loop-number.number false (first ((c.split_seat-seat.ensures.4 ∙ (λ j. (one_consumer (first (I.view j)), []))) i)) ∷ [])
+          ∙ sym (consumers_more queue c.loop-number.number);
       len = search rules;
       room = search rules;
     }
+
+pub returns-clause-fresh : goal.returns-clause-fresh
+returns-clause-fresh g c =
+    let table = c.in-Ok.table.shared in
+    let queue : ℕ → QueueView g.row.J.Denot = λ n. record { table = table.table_id; jobs = table.key.jobs.value.items; consumers = n } in
+    let many : table.key.consumers ≡ c.args.consumers = search rules in
+    subst (λ n. All (λ consumer. consumer ≡ fresh_consumer (queue n) consumer.number) c.loop-number.dealt.items) (sym many)
+    (all_fresh (queue c.args.consumers) c.loop-number.number c.loop-number.dealt.items c.loop-number.invariant.dealt)

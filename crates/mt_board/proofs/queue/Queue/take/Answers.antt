@@ -34,7 +34,7 @@ returns-clause-rises g c = subst (All (λ earlier. earlier < c.fetch_add-next.re
 pub returns-clause-consumer : goal.returns-clause-consumer
 returns-clause-consumer g c =
     let number = c.fetch_add-next.result in
-    let is = subst (λ done. IsConsumer c.consumer.inside.number done c.consumer.inside.seat.me) c.if-consumer.false c.consumer.invariant in
-    (λ i. consumer_view ((c.exchange.ensures.0 ∙ c.fetch_add-next.ensures.0) i) c.consumer.inside.done (c.exchange.ensures.3 i).0)
-    ∙ took_view c.consumer.inside.seat.me c.fetch_add-next.new.seat.me number c.consumer.inside.number is c.fetch_add-next.ensures.2.view (below_total _ _ _ _ c.fetch_add-next.result (ap (λ (v : ConsumerView g.row.J.Denot). v.queue) c.consumer.view_is ∙ c.requires ∙ sym c.self.view_is) c.consumer.invariant.total c.self.invariant.0 c.if-next-self.false) c.consumer.inside.seat.table_id c.consumer.inside.done
+    let is = subst (λ done. IsConsumer done c.consumer.inside.seat.me) c.if-consumer.false c.consumer.invariant in
+    (λ i. consumer_view ((c.exchange.ensures.0 ∙ c.fetch_add-next.ensures.0) i) c.consumer.inside.number c.consumer.inside.done (c.exchange.ensures.3 i).0)
+    ∙ took_view c.consumer.inside.seat.me c.fetch_add-next.new.seat.me number is c.fetch_add-next.ensures.2.view (below_total _ _ _ _ c.fetch_add-next.result (ap (λ (v : ConsumerView g.row.J.Denot). v.queue) c.consumer.view_is ∙ c.requires ∙ sym c.self.view_is) c.consumer.invariant.total c.self.invariant.0 c.if-next-self.false) c.consumer.inside.seat.table_id c.consumer.inside.number c.consumer.inside.done
     ∙ (λ i. record (c.consumer.view_is i) { taken = (c.consumer.view_is i).taken ++ number ∷ [] })
