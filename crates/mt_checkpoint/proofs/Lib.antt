@@ -1,3 +1,4 @@
+mod Fewest
 mod Plans
 pub mod Sound
 mod Texts

@@ -1,24 +1,29 @@
 -- Plans: one more pair, and the parts of a whole walk.
-use Rattle.std.proofs.Common.{◌≡◌, Bool, true, false, ◌<◌, ◌≤◌, ◌^◌, ◌-◌, ℕ, ◌+◌, List, [], ◌∷◌, ◌++◌, length, map, take, sym, refl, ap, subst, ◌∙◌, inl, inr, append_assoc, arith, length-append}
+use Rattle.std.proofs.Common.{◌≡◌, ◌≢◌, ◌⊎◌, suc, get_or, Bool, true, false, ◌<◌, ◌≤◌, ◌^◌, ◌-◌, ℕ, ◌+◌, List, [], ◌∷◌, ◌++◌, length, map, take, sym, refl, ap, subst, ◌∙◌, inl, inr, append_assoc, arith, length-append}
 use Rattle.std.specs.List.{AllByRecursion}
 use Rattle.std.specs.Ordering.{nat_cmp, is_lt, ordering_reverse}
 use Rattle.std.specs.Cmp.Lexicographic.{slice_cmp, nat_list_cmp_total}
 use Rattle.std.specs.declared.cmp.Ordering.{Ordering}
 use Rattle.std.specs.declared.cmp.Ordering.TheVariants.{Less, Equal, Greater}
 use Rattle.std.proofs.Math.Seq.{take-append_seam}
+use Rattle.std.proofs.lemmas.Bool.{false≢true}
 use Rattle.std.proofs.lemmas.List.{append-nil}
-use Rattle.std.proofs.lemmas.List.Concat.{flat_map-append}
 use Rattle.mt_words.specs.Walks.{Pair, KeysRise, joined}
 use Rattle.mt_words.specs.Words.{IsBelow}
 use Rattle.mt_words.specs.Built.{entry_of}
 use Rattle.mt_record.specs.Spelling.{change_bytes}
+use Rattle.mt_record.specs.Parts.{part_head_bytes, footer_bytes}
 use Rattle.mt_tree.specs.Range.{from}
 use Rattle.mt_tree.proofs.Joins.{all_back, all_append}
+use Rattle.mt_checkpoint.specs.Checkpoints.{Checkpoint, IsPlanFault, NeedsParts, entries_text, entries_with, head_of_part, pairs_of, part_text}
+use Rattle.mt_checkpoint.specs.declared.plan_fault.PlanFault.{PlanFault}
+use Rattle.mt_checkpoint.specs.declared.plan_fault.PlanFault.TheVariants.{Timestamp, Version, Parts, Memory}
 use Rattle.mt_checkpoint.specs.declared.checkpoint.TheConstants.{MOST_PARTS}
 use Rattle.mt_checkpoint.specs.declared.planning.TheConstants.{AROUND}
 use Rattle.mt_checkpoint.specs.declared.planning.Stretch.{Stretch}
 use Rattle.mt_checkpoint.specs.declared.planning.Planning.{Planning}
-use Rattle.mt_checkpoint.specs.Steps.Planning.{within, StartsAt, IsStretch, AreStretches, LiesWithin, IsPlan, MakeUp}
+use Rattle.mt_checkpoint.specs.Steps.Planning.{within, StartsAt, IsStretch, AreStretches, size_of, LiesWithin, IsFull, AreFull, IsPlan, IsPlanned, HasAtLeast, IsDivisionFault, MayBePart, MakeUp}
+use Rattle.mt_checkpoint.proofs.Fewest.{fewest, full_longer, full_none, full_snoc, joined_snoc, least_parts}
 use Rattle.mt_checkpoint.proofs.Texts.{size_more}
 
 -- ---- one more pair
@@ -27,10 +32,6 @@ use Rattle.mt_checkpoint.proofs.Texts.{size_more}
 still_starts : (start : List ℕ) (pairs more : List Pair) → 0 < length pairs → StartsAt start pairs → StartsAt start (pairs ++ more)
 still_starts start [] more some starts = absurd (omega (arith, some))
 still_starts start (p ∷ pairs) more some starts = starts
-
--- lists, and one more
-joined_snoc : (lists : List (List Pair)) (list : List Pair) → joined (lists ++ list ∷ []) ≡ joined lists ++ list
-joined_snoc lists list = flat_map-append (λ pairs. pairs) lists (list ∷ []) ∙ ap (λ (z : List Pair). joined lists ++ z) (append-nil list)
 
 stretches_snoc : (stretches : List Stretch) (lists : List (List Pair)) (stretch : Stretch) (list : List Pair) → AreStretches stretches lists → IsStretch stretch list
     → AreStretches (stretches ++ stretch ∷ []) (lists ++ list ∷ [])
@@ -43,6 +44,16 @@ no_length : (pairs : List Pair) → length pairs ≡ 0 → pairs ≡ []
 no_length [] none = refl
 no_length (pair ∷ pairs) none = absurd (omega (arith, none))
 
+-- stretches are as many as the lists that they have
+lengths_of : (stretches : List Stretch) (lists : List (List Pair)) → AreStretches stretches lists → length stretches ≡ length lists
+lengths_of [] [] are = refl
+lengths_of [] (list ∷ lists) are = absurd are
+lengths_of (stretch ∷ stretches) [] are = absurd are
+lengths_of (stretch ∷ stretches) (list ∷ lists) are = omega (arith, lengths_of stretches lists are.1)
+
+below_or_not : (n m : ℕ) → (n < m) ⊎ (m ≤ n)
+below_or_not n m = grind arith
+
 module _ (limit : ℕ) (plan : Planning) (seen : List Pair) (pair : Pair) (fields : ℕ) (is : IsPlan limit plan seen) (same : (version : ℕ) → fields ≡ length (change_bytes (entry_of version pair.0 pair.1))) where
   -- the last part takes the pair
   pub took : plan.size + (8 + fields) ≤ plan.limit → 0 < plan.last.count → plan.last.count < 2 ^ 32 - 1
@@ -52,6 +63,7 @@ module _ (limit : ℕ) (plan : Planning) (seen : List Pair) (pair : Pair) (field
     last = is.last ++ pair ∷ [];
     whole = ap (λ (z : List Pair). z ++ pair ∷ []) is.whole ∙ append_assoc (joined is.full) is.last (pair ∷ []);
     full_are = is.full_are;
+    full_to = full_longer limit is.full is.last (pair ∷ []) is.full_to;
     last_is = record {
       start = still_starts plan.last.start is.last (pair ∷ []) (omega (arith, some, is.last_is.count)) is.last_is.start;
       count = omega (arith, is.last_is.count, length-append is.last (pair ∷ []));
@@ -65,13 +77,14 @@ module _ (limit : ℕ) (plan : Planning) (seen : List Pair) (pair : Pair) (field
   }
 
   -- another part begins with the pair, after these
-  began : (new : Planning) (full : List (List Pair)) → seen ≡ joined full → AreStretches new.full.items full → length new.full.items < MOST_PARTS → AllByRecursion (LiesWithin limit) full
+  began : (new : Planning) (full : List (List Pair)) → seen ≡ joined full → AreStretches new.full.items full → AreFull limit full (pair ∷ []) → length new.full.items < MOST_PARTS → AllByRecursion (LiesWithin limit) full
       → new.limit ≡ plan.limit → pair.0 ≡ new.last.start → new.last.count ≡ 1 → new.size ≡ AROUND + (8 + fields) → IsPlan limit new (seen ++ pair ∷ [])
-  began new full whole are few each of_limit start one size = record {
+  began new full whole are full_to few each of_limit start one size = record {
     full = full;
     last = pair ∷ [];
     whole = ap (λ (z : List Pair). z ++ pair ∷ []) whole;
     full_are = are;
+    full_to = full_to;
     last_is = record { start = start; count = one; fits = omega (arith, one) };
     few = few;
     limit_is = of_limit ∙ is.limit_is;
@@ -80,24 +93,64 @@ module _ (limit : ℕ) (plan : Planning) (seen : List Pair) (pair : Pair) (field
     size = λ version. omega (arith, size, size_more version [] pair fields (same version));
   }
 
-  -- the last part is kept, and another one begins
-  pub began_next : (new : Planning) → new.full.items ≡ plan.full.items ++ plan.last ∷ [] → length plan.full.items + 1 < MOST_PARTS
-      → new.limit ≡ plan.limit → pair.0 ≡ new.last.start → new.last.count ≡ 1 → new.size ≡ AROUND + (8 + fields) → IsPlan limit new (seen ++ pair ∷ [])
-  began_next new items few =
+  -- the last part is kept, and another one begins: too many, or not
+  pub began_next : (new : Planning) → (0 < plan.last.count → (plan.limit < plan.size + (8 + fields)) ⊎ (2 ^ 32 - 1 ≤ plan.last.count)) → 0 < plan.last.count → new.full.items ≡ plan.full.items ++ plan.last ∷ []
+      → new.limit ≡ plan.limit → pair.0 ≡ new.last.start → new.last.count ≡ 1 → new.size ≡ AROUND + (8 + fields) → IsPlanned limit new (seen ++ pair ∷ [])
+  began_next new over some items of_limit start one size =
+      let full = is.full ++ is.last ∷ [] in
       let whole = is.whole ∙ sym (joined_snoc is.full is.last) in
-      let are = subst (λ (z : List Stretch). AreStretches z (is.full ++ is.last ∷ [])) (sym items) (stretches_snoc plan.full.items is.full plan.last is.last is.full_are is.last_is) in
-      let fewer : length new.full.items < MOST_PARTS = omega (arith, few, ap (λ (z : List Stretch). length z) items, length-append plan.full.items (plan.last ∷ [])) in
-      began new (is.full ++ is.last ∷ []) whole are fewer (all_append (LiesWithin limit) is.full (is.last ∷ []) is.full_within (is.last_within, tt))
+      let are = subst (λ (z : List Stretch). AreStretches z full) (sym items) (stretches_snoc plan.full.items is.full plan.last is.last is.full_are is.last_is) in
+      let count : length new.full.items ≡ length plan.full.items + 1 = ap (λ (z : List Stretch). length z) items ∙ length-append plan.full.items (plan.last ∷ []) in
+      let longer : (version : ℕ) → plan.size + (8 + fields) ≡ size_of version (is.last ++ pair ∷ []) = λ version. omega (arith, is.size version, size_more version is.last pair fields (same version)) in
+      let last_full : IsFull limit is.last pair = record {
+        some = omega (arith, some, is.last_is.count);
+        over = elim (over some) as (λ _. (2 ^ 32 ≤ length is.last + 1) ⊎ ((version : ℕ) → limit < size_of version (is.last ++ pair ∷ []))) [
+          | inl bytes ↦ inr (λ version. omega (arith, bytes, is.limit_is, longer version))
+          | inr pairs ↦ inl (omega (arith, pairs, is.last_is.count))
+        ];
+      } in
+      let full_to = full_snoc limit is.full is.last pair is.full_to last_full in
+      elim (below_or_not (length new.full.items) MOST_PARTS) as (λ _. IsPlanned limit new (seen ++ pair ∷ [])) [
+        | inl fewer ↦ inl (began new full whole are full_to fewer (all_append (LiesWithin limit) is.full (is.last ∷ []) is.full_within (is.last_within, tt)) of_limit start one size)
+        | inr many ↦ inr (record {
+          many = many;
+          needs = λ more version parts some fits same.
+              let all = fewest limit version full (pair ∷ more) [] parts (omega arith) (full_longer limit full (pair ∷ []) more full_to) fits (same ∙ ap (λ (z : List Pair). z ++ more) (ap (λ (z : List Pair). z ++ pair ∷ []) whole) ∙ append_assoc (joined full) (pair ∷ []) more) in
+              omega (arith, all, many, count, lengths_of new.full.items full are);
+        })
+      ]
 
   -- the first part begins
   pub began_first : (new : Planning) → new.full.items ≡ plan.full.items → plan.last.count ≡ 0
-      → new.limit ≡ plan.limit → pair.0 ≡ new.last.start → new.last.count ≡ 1 → new.size ≡ AROUND + (8 + fields) → IsPlan limit new (seen ++ pair ∷ [])
-  began_first new items none =
+      → new.limit ≡ plan.limit → pair.0 ≡ new.last.start → new.last.count ≡ 1 → new.size ≡ AROUND + (8 + fields) → IsPlanned limit new (seen ++ pair ∷ [])
+  began_first new items none of_limit start one size =
       let empty : is.last ≡ [] = no_length is.last (omega (arith, none, is.last_is.count)) in
       let whole = is.whole ∙ ap (λ (z : List Pair). joined is.full ++ z) empty ∙ append-nil (joined is.full) in
       let are = subst (λ (z : List Stretch). AreStretches z is.full) (sym items) is.full_are in
       let fewer : length new.full.items < MOST_PARTS = omega (arith, is.few, ap (λ (z : List Stretch). length z) items) in
-      began new is.full whole are fewer is.full_within
+      let none_full : is.full ≡ [] = full_none limit is.full (subst (AreFull limit is.full) empty is.full_to) in
+      let full_to = subst (λ (z : List (List Pair)). AreFull limit z (pair ∷ [])) (sym none_full) tt in
+      inl (began new is.full whole are full_to fewer is.full_within of_limit start one size)
+
+-- ---- plans with too many parts
+
+-- without too many parts it is a plan
+pub only_plan : (limit : ℕ) (seen : List Pair) (plan : Planning) → IsPlanned limit plan seen → (MOST_PARTS ≤ length plan.full.items → false ≡ true) → IsPlan limit plan seen
+only_plan limit seen plan (inl is) not = is
+only_plan limit seen plan (inr over) not = absurd (false≢true (not over.many))
+
+-- with too many, there is no way with few enough
+pub only_over : (limit : ℕ) (seen : List Pair) (plan : Planning) → IsPlanned limit plan seen → MOST_PARTS ≤ length plan.full.items → HasAtLeast limit seen (MOST_PARTS + 1)
+only_over limit seen plan (inl is) many = absurd (omega (arith, is.few, many))
+only_over limit seen plan (inr over) many = subst (λ (z : List Pair). HasAtLeast limit z (MOST_PARTS + 1)) (append-nil seen) (over.needs [])
+
+-- and none with more pairs
+pub still_over : (limit : ℕ) (plan : Planning) (seen pairs : List Pair) → MOST_PARTS ≤ length plan.full.items → IsPlanned limit plan seen → IsPlanned limit plan (seen ++ pairs)
+still_over limit plan seen pairs many (inl is) = absurd (omega (arith, is.few, many))
+still_over limit plan seen pairs many (inr over) = inr (record {
+  many = many;
+  needs = λ more. subst (λ (z : List Pair). HasAtLeast limit z (MOST_PARTS + 1)) (sym (append_assoc seen pairs more)) (over.needs (pairs ++ more));
+})
 
 -- ---- the pairs of a stretch
 
@@ -164,6 +217,7 @@ begun limit plan empty none size of_limit = record {
   last = [];
   whole = refl;
   full_are = subst (λ (z : List Stretch). AreStretches z []) (sym empty) tt;
+  full_to = tt;
   last_is = record { start = tt; count = none; fits = omega (arith, none) };
   few = omega (arith, ap (λ (z : List Stretch). length z) empty);
   limit_is = of_limit;
@@ -186,4 +240,38 @@ made_up limit walk plan stretches rise is same =
       few = omega (arith, count, is.few);
       counts = subst (AllByRecursion (λ part. length part < 2 ^ 32)) (sym parts) (few_in_each stretches lists are);
       within = subst (AllByRecursion (LiesWithin limit)) (sym parts) (all_append (LiesWithin limit) is.full (is.last ∷ []) is.full_within (is.last_within, tt));
+      fewest = λ version others some fits same.
+          let least = least_parts limit version is.full is.last others is.full_to some fits (same ∙ is.whole) in
+          omega (arith, least, count, lengths_of plan.full.items is.full is.full_are);
     }
+
+-- ---- other checkpoints of the pairs
+
+may_be : (version limit : ℕ) (parts : List (List Pair)) → AllByRecursion (λ part. length part < 2 ^ 32) parts
+    → ((i : ℕ) → (length (get_or parts i []) ≤ 1) ⊎ (size_of version (get_or parts i []) ≤ limit)) → AllByRecursion (MayBePart version limit) parts
+may_be version limit [] counts each = tt
+may_be version limit (part ∷ parts) counts each = ((counts.0, each 0), may_be version limit parts counts.1 (λ i. each (suc i)))
+
+part_length : (checkpoint : Checkpoint) (part : ℕ) → length (part_text checkpoint part) ≡ size_of checkpoint.version (pairs_of checkpoint part)
+part_length checkpoint part =
+    let head = part_head_bytes (head_of_part checkpoint part) in
+    let text = entries_text checkpoint.version (pairs_of checkpoint part) in
+    let footer = footer_bytes checkpoint.cutoff (length (entries_with checkpoint.version (pairs_of checkpoint part))) in
+    omega (arith, length-append head (text ++ footer), length-append text footer)
+
+-- what holds however the pairs are divided holds for each checkpoint
+pub needs_parts : (limit : ℕ) (pairs : List Pair) (least : ℕ) → HasAtLeast limit pairs least → NeedsParts limit pairs least
+needs_parts limit pairs least has other is = has other.version other.parts is.some (may_be other.version limit other.parts is.counts each) is.whole
+  where
+    each : (i : ℕ) → (length (pairs_of other i) ≤ 1) ⊎ (size_of other.version (pairs_of other i) ≤ limit)
+    each i = elim (is.within i) as (λ _. (length (pairs_of other i) ≤ 1) ⊎ (size_of other.version (pairs_of other i) ≤ limit)) [
+      | inl single ↦ inl single
+      | inr room ↦ inr (omega (arith, room, part_length other i))
+    ]
+
+-- so no checkpoint has the pairs if they cannot be divided
+pub no_plan : (limit cutoff version : ℕ) (pairs : List Pair) (fault : PlanFault) → cutoff ≢ 2 ^ 64 - 1 → version ≢ 2 ^ 64 - 1 → IsDivisionFault limit pairs fault → IsPlanFault limit cutoff version pairs fault
+no_plan limit cutoff version pairs Timestamp time newest is = absurd is
+no_plan limit cutoff version pairs Version time newest is = absurd is
+no_plan limit cutoff version pairs Parts time newest is = (time, newest, needs_parts limit pairs (MOST_PARTS + 1) is)
+no_plan limit cutoff version pairs Memory time newest is = (time, newest)

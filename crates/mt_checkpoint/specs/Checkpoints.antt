@@ -1,5 +1,5 @@
 -- A store as the parts of one checkpoint, and the log that makes it count.
-use Rattle.std.specs.Prelude.{◌≡◌, ◌⊎◌, ◌≤◌, ◌<◌, ◌^◌, ◌+◌, ◌-◌, ℕ, List, [], ◌++◌, length, map, slice_index_or}
+use Rattle.std.specs.Prelude.{◌≡◌, ◌≢◌, ◌⊎◌, ◌≤◌, ◌<◌, ◌^◌, ◌+◌, ◌-◌, ℕ, List, [], ◌++◌, length, map, slice_index_or}
 use Rattle.std.specs.List.{flat_map, AllByRecursion}
 use Rattle.mt_words.specs.declared.record.Change.{Change}
 use Rattle.mt_words.specs.declared.limits.Format.TheVariants.{Two}
@@ -10,6 +10,9 @@ use Rattle.mt_record.specs.Heads.{head_bytes}
 use Rattle.mt_record.specs.Encoding.{head_of}
 use Rattle.mt_record.specs.Spelling.{spelling}
 use Rattle.mt_record.specs.Parts.{part_head, part_bytes, entry_spelling}
+use Rattle.mt_checkpoint.specs.declared.checkpoint.TheConstants.{MOST_PARTS}
+use Rattle.mt_checkpoint.specs.declared.plan_fault.PlanFault.{PlanFault}
+use Rattle.mt_checkpoint.specs.declared.plan_fault.PlanFault.TheVariants.{Timestamp, Version, Parts, Memory}
 
 -- a checkpoint of a store: its number, the timestamp at which it begins and ends, the version of its entries, and the pairs of each part
 pub record Checkpoint : Type 0 where
@@ -56,3 +59,21 @@ pub record HasPairs (pairs : List Pair) (checkpoint : Checkpoint) : Type 0 where
 -- each part has at most this many bytes, or a single entry
 abbrev pub ArePartsWithin : ℕ → Checkpoint → Type 0
 ArePartsWithin limit checkpoint = (part : ℕ) → (length (pairs_of checkpoint part) ≤ 1) ⊎ (length (part_text checkpoint part) ≤ limit)
+
+-- the checkpoint has these pairs, in order, in parts of at most this many bytes or a single entry
+pub record IsDivided (limit : ℕ) (pairs : List Pair) (checkpoint : Checkpoint) : Type 0 where
+  pub whole : joined checkpoint.parts ≡ pairs
+  pub some : 0 < length checkpoint.parts
+  pub counts : AllByRecursion (λ part. length part < 2 ^ 32) checkpoint.parts
+  pub within : ArePartsWithin limit checkpoint
+
+-- each checkpoint that has these pairs in such parts has at least this number of parts
+abbrev pub NeedsParts : ℕ → List Pair → ℕ → Type 0
+NeedsParts limit pairs least = (checkpoint : Checkpoint) → IsDivided limit pairs checkpoint → least ≤ length checkpoint.parts
+
+-- Why there is no checkpoint. The cutoff is looked at first, then the version. Out of memory comes only if neither is the last.
+abbrev pub IsPlanFault : ℕ → ℕ → ℕ → List Pair → PlanFault → Type 0
+IsPlanFault limit cutoff version pairs Timestamp = cutoff ≡ 2 ^ 64 - 1
+IsPlanFault limit cutoff version pairs Version = (cutoff ≢ 2 ^ 64 - 1) × (version ≡ 2 ^ 64 - 1)
+IsPlanFault limit cutoff version pairs Parts = (cutoff ≢ 2 ^ 64 - 1) × (version ≢ 2 ^ 64 - 1) × NeedsParts limit pairs (MOST_PARTS + 1)
+IsPlanFault limit cutoff version pairs Memory = (cutoff ≢ 2 ^ 64 - 1) × (version ≢ 2 ^ 64 - 1)

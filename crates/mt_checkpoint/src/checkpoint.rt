@@ -1,9 +1,9 @@
 //! A checkpoint of a store.
-ghost use Rattle.std.specs.Prelude.{◌≡◌, ◌≢◌, ◌↔◌, ◌≤◌, ◌<◌, ◌++◌, max, length, IfOk, OnOk, OnErr};
+ghost use Rattle.std.specs.Prelude.{◌≡◌, ◌≤◌, ◌<◌, ◌+◌, ◌++◌, max, length, IfErr, IfOk, OnOk, OnErr};
 ghost use Rattle.std.specs.Io.KnownBytes.{Appends};
 ghost use Rattle.mt_words.specs.Walks.{KeysRise};
 ghost use Rattle.mt_tree.specs.Trees.{tree_walk};
-ghost use Rattle.mt_checkpoint.specs.Checkpoints.{HasPairs, ArePartsWithin, part_text, log_text};
+ghost use Rattle.mt_checkpoint.specs.Checkpoints.{HasPairs, ArePartsWithin, IsPlanFault, NeedsParts, part_text, log_text};
 
 use crate::encode::{write_footer, write_header};
 use crate::entries::write_entries;
@@ -51,8 +51,8 @@ impl<'a> Model for Checkpoint<'a> {
 impl<'a> Checkpoint<'a> {
     /// Plans checkpoint `number` of the tree: which pairs each of its parts has. Writes nothing. The checkpoint is at the
     /// timestamp `cutoff`, and its entries have the version `version`, or 1 if that is 0. A part has at most `limit`
-    /// bytes, or a single entry. Err: no timestamp is above the cutoff; no version is above `version`; there are too
-    /// many parts; out of memory.
+    /// bytes, or a single entry, and there are as few parts as that allows. Err: no timestamp is above the cutoff; no
+    /// version is above `version`; more than `MOST_PARTS` parts are needed; out of memory.
     pub fn plan(
         alloc: Global,
         tree: &'a Tree,
@@ -67,8 +67,8 @@ impl<'a> Checkpoint<'a> {
         ensures version { IfOk result (λ made. made.version ≡ max 1 version) }
         ensures parts { IfOk result (HasPairs (tree_walk tree.now)) }
         ensures within { IfOk result (ArePartsWithin limit) }
-        ensures last { cutoff ≡ u64.MAX → result ≡ Err PlanFault.Timestamp }
-        ensures newest { cutoff ≢ u64.MAX → version ≡ u64.MAX → result ≡ Err PlanFault.Version }
+        ensures fewest { IfOk result (λ made. NeedsParts limit (tree_walk tree.now) (length made.parts)) }
+        ensures fault { IfErr result (IsPlanFault limit cutoff version (tree_walk tree.now)) }
     {
         if cutoff == u64::MAX {
             return Err(PlanFault::Timestamp);

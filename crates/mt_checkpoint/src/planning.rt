@@ -1,17 +1,17 @@
 //! Where the parts of a checkpoint begin: a walk before anything is written.
-ghost use Rattle.std.specs.Prelude.{◌≡◌, ◌-◌, ◌≤◌, ◌<◌, ◌+◌, ◌^◌, length, IsTrue, IfOk};
+ghost use Rattle.std.specs.Prelude.{◌≡◌, ◌-◌, ◌≤◌, ◌<◌, ◌+◌, ◌^◌, ◌⊎◌, ◌↔◌, length, false, IsTrue, IfOk, IfErr};
 ghost use Rattle.mt_words.specs.Limits.{widest};
 ghost use Rattle.mt_words.specs.Words.{IsKey};
 ghost use Rattle.mt_words.specs.Walks.{KeysRise};
 ghost use Rattle.mt_tree.specs.Trees.{tree_walk};
-ghost use Rattle.mt_checkpoint.specs.Steps.Planning.{MakeUp, HasPlanned, none_planned, both_planned};
+ghost use Rattle.mt_checkpoint.specs.Steps.Planning.{MakeUp, IsDivisionFault, HasPlanned, none_planned, both_planned};
 
 use crate::checkpoint::MOST_PARTS;
 use crate::encode::entry_length;
 use crate::plan_fault::PlanFault;
 use mt_record::{FOOTER_BYTES, PART_HEADER_BYTES};
 use mt_tree::{Tree, Visitor};
-use mt_words::{Key, PackedColumns};
+use mt_words::{Key, Memory, PackedColumns};
 use std::alloc::Global;
 use std::mem;
 
@@ -30,7 +30,8 @@ pub struct Stretch {
 /// Returns the parts of a tree. Each has at most `limit` bytes, or a single entry. Err: there are too many; out of memory.
 pub fn stretches_of(alloc: Global, tree: &Tree, limit: usize) -> Result<Vec<Stretch>, PlanFault>
     requires { KeysRise (tree_walk tree.now) }
-    ensures { IfOk result (λ stretches. MakeUp limit (tree_walk tree.now) stretches.items) }
+    ensures parts { IfOk result (λ stretches. MakeUp limit (tree_walk tree.now) stretches.items) }
+    ensures fault { IfErr result (IsDivisionFault limit (tree_walk tree.now)) }
 {
     let last = Stretch {
         start: Key::copy_of(alloc, &[])?,
@@ -44,6 +45,9 @@ pub fn stretches_of(alloc: Global, tree: &Tree, limit: usize) -> Result<Vec<Stre
         size: AROUND,
     };
     tree.visit(&Planner, &mut plan)?;
+    if plan.is_over() {
+        return Err(PlanFault::Parts);
+    }
     let Planning { mut full, last, .. } = plan;
     full.push(last)?;
     Ok(full)
@@ -69,24 +73,25 @@ impl Planning {
         ensures room { IsTrue result → self.now.size + length ≤ self.now.limit }
         ensures some { IsTrue result → 0 < self.now.last.count }
         ensures few { IsTrue result → self.now.last.count < 2 ^ 32 - 1 }
+        ensures full { result ≡ false → 0 < self.now.last.count → (self.now.limit < self.now.size + length) ⊎ (2 ^ 32 - 1 ≤ self.now.last.count) }
     {
         let has_room = self.size <= self.limit && length <= self.limit - self.size;
         has_room && 0 < self.last.count && self.last.count < u32::MAX
     }
 
-    /// Returns whether another part may begin.
-    fn may_begin(&self) -> bool
-        ensures { IsTrue result → length self.now.full.items + 1 < MOST_PARTS }
+    /// Returns whether more parts were begun than a checkpoint may have.
+    fn is_over(&self) -> bool
+        ensures { IsTrue result ↔ (MOST_PARTS ≤ length self.now.full.items) }
     {
-        self.full.len() + 1 < MOST_PARTS
+        MOST_PARTS <= self.full.len()
     }
 }
 
-/// Adds each pair to the last part, or begins another part with it.
+/// Adds each pair to the last part, or begins another part with it. Ends the walk once there are too many.
 pub struct Planner;
 
 impl Visitor<Planning> for Planner {
-    type Error = PlanFault;
+    type Error = Memory;
 
     ghost shown = { HasPlanned };
 
@@ -95,15 +100,15 @@ impl Visitor<Planning> for Planner {
         plan: &mut Planning,
         key: &[u8],
         columns: &PackedColumns,
-    ) -> Result<(), PlanFault> {
+    ) -> Result<(), Memory> {
+        if plan.is_over() {
+            return Ok(());
+        }
         let length = 8 + entry_length(key, columns);
         if plan.takes(length) {
             plan.last.count += 1;
             plan.size += length;
             return Ok(());
-        }
-        if !plan.may_begin() {
-            return Err(PlanFault::Parts);
         }
         let start = Key::copy_of(plan.alloc, key)?;
         let full = mem::replace(&mut plan.last, Stretch { start, count: 1 });
@@ -112,6 +117,10 @@ impl Visitor<Planning> for Planner {
             plan.full.push(full)?;
         }
         Ok(())
+    }
+
+    fn is_full(&self, plan: &Planning) -> bool {
+        plan.is_over()
     }
 
     ghost none = { none_planned };
