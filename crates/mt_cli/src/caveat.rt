@@ -90,7 +90,7 @@ impl Display for Losses {
     }
 }
 
-/// Returns the ending of a word for so many.
+/// Returns what a word ends in that counts this number: `s` unless it is 1.
 pub fn plural(count: u128) -> &'static str {
     if count == 1 { "" } else { "s" }
 }

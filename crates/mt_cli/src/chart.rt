@@ -273,7 +273,7 @@ fn digits_of(number: u64) -> usize {
     }
 }
 
-/// Prints so many blanks. Err: write error.
+/// Prints `count` blanks. Err: write error.
 fn write_blanks<W: Write>(count: usize, out: &mut W) -> io::Result<()> {
     for _ in 0..count {
         out.write_all(b" ")?;

@@ -158,7 +158,7 @@ impl Fate {
     }
 }
 
-/// Returns what becomes of a checkpoint of so many parts, all of which are complete, in a word.
+/// Returns what becomes of a checkpoint of `count` parts, all of which are complete, in a word.
 fn word_of(
     first: Part,
     count: usize,

@@ -25,7 +25,7 @@ pub struct Run<'a, R> {
 }
 
 impl<'a, R: Host> Run<'a, R> {
-    /// Returns a meter of the bytes of all files, each read so many times, and of so many pieces.
+    /// Returns a meter of the bytes of all files, each read `readings` times, and of this number of pieces.
     pub fn meter<'e, E: Write>(&self, readings: u64, pieces: u32, err: &'e mut E) -> Meter<'e, R, E>
     where
         'a: 'e,
