@@ -130,13 +130,14 @@ fn of_log<O: Write>(
         None => return Err(Refusal::from(Fault::Header { log: 0 })),
     };
     let start = start_at(at, first, bytes);
-    let stopped = write_records(alloc, format, bytes, start, selection, out)?;
+    let begin = selection.begin(start);
+    let listed = write_records(alloc, format, &bytes[start..], begin, selection, out)?;
     out.flush()?;
-    let Some(stopped) = stopped else {
+    if listed.left == 0 {
         return Ok(None);
-    };
-    if at.is_some() || stopped.at == bytes.len() {
-        return Ok(Stop::at(alloc, format, bytes, start, stopped.at)?);
+    }
+    if at.is_some() || listed.at == bytes.len() {
+        return Ok(Stop::at(alloc, format, bytes, start, listed.at)?);
     }
     // What is wrong there tells a second reading.
     let (front, _) = cut_out(alloc, bytes)?;
@@ -157,18 +158,19 @@ fn of_part<O: Write>(
     let end = end_of(alloc, bytes)?;
     write_part_head(head, end, selection.notation, out)?;
     let start = start_at(at, first, bytes);
-    let stopped = write_entries(alloc, head.format, bytes, start, selection, out)?;
+    let begin = selection.begin(start);
+    let listed = write_entries(alloc, head.format, &bytes[start..], begin, selection, out)?;
     out.flush()?;
-    let Some(stopped) = stopped else {
+    if listed.left == 0 {
         return Ok(None);
-    };
+    }
     if at.is_some() {
-        return Ok(Stop::at_entry(bytes, stopped.at));
+        return Ok(Stop::at_entry(bytes, listed.at));
     }
     if end.is_some() {
         return Ok(None);
     }
-    Ok(Stop::of_entries(&stopped, bytes))
+    Ok(Stop::of_entries(&listed, bytes))
 }
 
 /// Returns where the checkpoint ends of which the bytes are a part. None: the bytes are no part.

@@ -5,7 +5,7 @@ use crate::caveat::plural;
 use crate::ending::{Again, Ending, header_bytes};
 use crate::hints::MANY_ZEROS;
 use mt_record::{FOOTER_BYTES, LogFront, Rest, footer_of};
-use mt_text::Stopped;
+use mt_text::Listed;
 use mt_words::{Format, Memory, What};
 use std::alloc::Global;
 use std::fmt::{self, Display, Formatter, Write};
@@ -60,12 +60,12 @@ impl Stop {
     }
 
     /// Returns where the entries of a broken part stop, all of which were counted.
-    pub fn of_entries(stopped: &Stopped, bytes: &[u8]) -> Option<Stop> {
+    pub fn of_entries(listed: &Listed, bytes: &[u8]) -> Option<Stop> {
         Some(Stop {
             name: "entry",
-            at: stopped.at,
-            reason: Some((stopped.count, Wrong::Broken)),
-            ending: Ending::of_part(bytes.get(stopped.at..)?),
+            at: listed.at,
+            reason: Some((listed.number, Wrong::Broken)),
+            ending: Ending::of_part(bytes.get(listed.at..)?),
         })
     }
 

@@ -1,5 +1,5 @@
 -- The lines of the records of a log, and of the entries of a part.
-use Rattle.std.proofs.Common.{◌≡◌, ℕ, suc, ◌+◌, ◌-◌, ◌≤◌, ◌<◌, Bool, true, false, List, [], ◌∷◌, ◌++◌, length, drop, filter, Option, refl, sym, ap, ◌∙◌, subst, arith}
+use Rattle.std.proofs.Common.{◌≡◌, ℕ, suc, ◌+◌, ◌-◌, ◌≤◌, ◌<◌, Bool, true, false, List, [], ◌∷◌, ◌++◌, length, filter, Option, refl, sym, ap, ◌∙◌, subst, arith}
 use Rattle.std.proofs.lemmas.List.{length-append, append_assoc, flat_map_more}
 use Rattle.std.proofs.lemmas.List.Elements.{filter-append}
 use Rattle.std.proofs.lemmas.Grind.{flat_map-append}
@@ -17,6 +17,7 @@ use Rattle.mt_record.specs.Parts.{entry_spelling}
 use Rattle.mt_record.specs.PartFronts.{IsNextEntryOf}
 use Rattle.mt_record.proofs.Records.{records_push, latest_push}
 use Rattle.mt_record.proofs.Unique.{length_framed}
+use Rattle.mt_text.specs.declared.listing.Listed.{Listed}
 use Rattle.mt_text.specs.declared.listing.Selection.{Selection}
 use Rattle.mt_text.specs.RecordText.{Item, Placed, placed_at}
 use Rattle.mt_text.specs.Listing.{line, placed, is_wanted, wanted_in}
@@ -39,37 +40,36 @@ module _ {T : Type 0} (item_of : T → Item) (encoded : T → List ℕ) where
       (placed_push (suc number) (at + length (encoded y)) ys x ∙ λ i. placed item_of encoded (suc number) (at + length (encoded y)) ys ++ placed_at (n i) (m i) (item_of x) ∷ [])
 
   -- and it is wanted or not
-  wanted_push : (selection : Selection) (start : ℕ) (xs : List T) (x : T) (number at : ℕ) → number ≡ length xs → at ≡ start + length (flat_map encoded xs)
-      → wanted_in item_of encoded selection start (xs ++ x ∷ []) ≡ wanted_in item_of encoded selection start xs ++ filter (is_wanted selection) (placed_at number at (item_of x) ∷ [])
-  wanted_push selection start xs x number at same_number same_byte =
-      let n : 0 + length xs ≡ number = omega (arith, same_number) in
-      ap (filter (is_wanted selection)) (placed_push 0 start xs x ∙ λ i. placed item_of encoded 0 start xs ++ placed_at (n i) (sym same_byte i) (item_of x) ∷ [])
-      ∙ filter-append (is_wanted selection) (placed item_of encoded 0 start xs) (placed_at number at (item_of x) ∷ [])
+  wanted_push : (selection : Selection) (from : Listed) (xs : List T) (x : T) (number at : ℕ) → number ≡ from.number + length xs → at ≡ from.at + length (flat_map encoded xs)
+      → wanted_in item_of encoded selection from (xs ++ x ∷ []) ≡ wanted_in item_of encoded selection from xs ++ filter (is_wanted selection) (placed_at number at (item_of x) ∷ [])
+  wanted_push selection from xs x number at same_number same_byte =
+      ap (filter (is_wanted selection)) (placed_push from.number from.at xs x ∙ λ i. placed item_of encoded from.number from.at xs ++ placed_at (sym same_number i) (sym same_byte i) (item_of x) ∷ [])
+      ∙ filter-append (is_wanted selection) (placed item_of encoded from.number from.at xs) (placed_at number at (item_of x) ∷ [])
 
   -- the wanted ones of the values so far, for which `So` holds, were printed; `rest` follows them
-  pub record AreListedSoFar (So : List T → Type 0) (selection : Selection) (bytes : List ℕ) (start : ℕ) (rest : List ℕ) (number left : ℕ) (old new : Option (List ℕ)) : Type 0 where
+  pub record AreListedSoFar (So : List T → Type 0) (selection : Selection) (bytes : List ℕ) (from : Listed) (rest : List ℕ) (number left : ℕ) (old new : Option (List ℕ)) : Type 0 where
     pub values : List T
     pub so : So values
-    pub spelled : drop start bytes ≡ flat_map encoded values ++ rest
-    pub count : number ≡ length values
-    pub fits : number + length rest ≤ length bytes
-    pub within : start + length (flat_map encoded values) + length rest ≡ length bytes
-    pub room : left + length (wanted_in item_of encoded selection start values) ≡ selection.limit
-    pub printed : Appends old new (flat_map (line selection.notation) (wanted_in item_of encoded selection start values))
+    pub spelled : bytes ≡ flat_map encoded values ++ rest
+    pub count : number ≡ from.number + length values
+    pub fits : number + length rest ≤ from.number + length bytes
+    pub within : length (flat_map encoded values) + length rest ≡ length bytes
+    pub room : left + length (wanted_in item_of encoded selection from values) ≡ from.left
+    pub printed : Appends old new (flat_map (line selection.notation) (wanted_in item_of encoded selection from values))
 
   -- and one more
-  pub one_more_so_far : (So Then : List T → Type 0) (selection : Selection) (bytes : List ℕ) (start : ℕ) (rest after : List ℕ) (number left at count : ℕ) (x : T) (old new newer : Option (List ℕ))
-      → AreListedSoFar So selection bytes start rest number left old new → ((xs : List T) → So xs → Then (xs ++ x ∷ [])) → rest ≡ encoded x ++ after → 0 < length (encoded x)
-      → at ≡ length bytes - length rest → 0 < left → count ≡ length (filter (is_wanted selection) (placed_at number at (item_of x) ∷ []))
+  pub one_more_so_far : (So Then : List T → Type 0) (selection : Selection) (bytes : List ℕ) (from : Listed) (rest after : List ℕ) (number left at count : ℕ) (x : T) (old new newer : Option (List ℕ))
+      → AreListedSoFar So selection bytes from rest number left old new → ((xs : List T) → So xs → Then (xs ++ x ∷ [])) → rest ≡ encoded x ++ after → 0 < length (encoded x)
+      → at ≡ from.at + (length bytes - length rest) → 0 < left → count ≡ length (filter (is_wanted selection) (placed_at number at (item_of x) ∷ []))
       → Appends new newer (flat_map (line selection.notation) (filter (is_wanted selection) (placed_at number at (item_of x) ∷ [])))
-      → AreListedSoFar Then selection bytes start after (number + 1) (left - count) old newer
-  one_more_so_far So Then selection bytes start rest after number left at count x old new newer so_far push e some_bytes where_at some counted printed =
+      → AreListedSoFar Then selection bytes from after (number + 1) (left - count) old newer
+  one_more_so_far So Then selection bytes from rest after number left at count x old new newer so_far push e some_bytes where_at some counted printed =
       let xs = so_far.values in
-      let these = wanted_in item_of encoded selection start xs in
+      let these = wanted_in item_of encoded selection from xs in
       let this = filter (is_wanted selection) (placed_at number at (item_of x) ∷ []) in
       let sizes = length-append (encoded x) after in
       let total = ap length e in
-      let wanted = wanted_push selection start xs x number at so_far.count (omega (arith, where_at, so_far.within)) in
+      let wanted = wanted_push selection from xs x number at so_far.count (omega (arith, where_at, so_far.within)) in
       let long = length-append (flat_map encoded xs) (encoded x) in
       let longer : flat_map encoded (xs ++ x ∷ []) ≡ flat_map encoded xs ++ encoded x = sym (flat_map_more encoded [] xs x) in
       let one : count ≤ 1 = at_most_one (is_wanted selection) (placed_at number at (item_of x)) count counted in
@@ -95,14 +95,14 @@ module _ {T : Type 0} (item_of : T → Item) (encoded : T → List ℕ) where
 
 -- ---- records
 
--- lawful records with this last timestamp
-abbrev pub RecordsSoFar : Limits → ℕ → List Logged → Type 0
-RecordsSoFar limits low rs = AreRecords limits 0 rs × (low ≡ latest 0 rs)
+-- lawful records from this timestamp on, with this last one
+abbrev pub RecordsSoFar : Limits → ℕ → ℕ → List Logged → Type 0
+RecordsSoFar limits first low rs = AreRecords limits first rs × (low ≡ latest first rs)
 
 -- the next record follows them
-pub record_push : (limits : Limits) (low : ℕ) (bytes after : List ℕ) (r : Logged) → IsNext limits low bytes r after → (rs : List Logged) → RecordsSoFar limits low rs
-    → RecordsSoFar limits r.timestamp (rs ++ r ∷ [])
-record_push limits low bytes after r next rs so = (records_push limits 0 rs r so.0 next.lawful (rw (← so.1) next.rises), sym (latest_push 0 rs r))
+pub record_push : (limits : Limits) (first low : ℕ) (bytes after : List ℕ) (r : Logged) → IsNext limits low bytes r after → (rs : List Logged) → RecordsSoFar limits first low rs
+    → RecordsSoFar limits first r.timestamp (rs ++ r ∷ [])
+record_push limits first low bytes after r next rs so = (records_push limits first rs r so.0 next.lawful (rw (← so.1) next.rises), sym (latest_push first rs r))
 
 -- a record has at least eight bytes
 pub record_some : (r : Logged) → 0 < length (spelling r)

@@ -1,5 +1,5 @@
 -- Which records of a log, or entries of a part, are printed.
-use Rattle.std.specs.Prelude.{◌≡◌, ℕ, suc, ◌+◌, ◌≤◌, ◌&&◌, Bool, true, false, nat_le, nat_eq, Option, Some, None, MatchOption, List, [], ◌∷◌, ◌++◌, length, drop, filter}
+use Rattle.std.specs.Prelude.{◌≡◌, ℕ, suc, ◌+◌, ◌<◌, ◌&&◌, Bool, true, false, nat_le, nat_eq, Option, Some, None, List, [], ◌∷◌, ◌++◌, length, filter}
 use Rattle.std.specs.List.{flat_map, AllByRecursion}
 use Rattle.std.specs.Cmp.Lexicographic.{pointwise}
 use Rattle.std.specs.Io.KnownBytes.{Appends}
@@ -16,7 +16,7 @@ use Rattle.mt_record.specs.PartFaults.{HasNoEntry}
 use Rattle.mt_text.specs.declared.listing.Notation.{Notation}
 use Rattle.mt_text.specs.declared.listing.Notation.TheVariants.{Words, Json}
 use Rattle.mt_text.specs.declared.listing.Selection.{Selection}
-use Rattle.mt_text.specs.declared.listing.Stopped.{Stopped}
+use Rattle.mt_text.specs.declared.listing.Listed.{Listed}
 use Rattle.mt_text.specs.RecordText.{Item, of_record, of_entry, Placed, placed_at, words_line, log_words, part_words}
 use Rattle.mt_text.specs.RecordJson.{json_line, log_json, part_json}
 
@@ -51,29 +51,31 @@ abbrev pub placed : {T : Type 0} → (T → Item) → (T → List ℕ) → ℕ �
 placed item_of encoded number at [] = []
 placed item_of encoded number at (x ∷ xs) = placed_at number at (item_of x) ∷ placed item_of encoded (suc number) (at + length (encoded x)) xs
 
--- the wanted ones, of which the first of all begins at byte `start`
-abbrev pub wanted_in : {T : Type 0} → (T → Item) → (T → List ℕ) → Selection → ℕ → List T → List Placed
-wanted_in item_of encoded selection start values = filter (is_wanted selection) (placed item_of encoded 0 start values)
+-- the wanted ones of those that follow where others are listed
+abbrev pub wanted_in : {T : Type 0} → (T → Item) → (T → List ℕ) → Selection → Listed → List T → List Placed
+wanted_in item_of encoded selection from values = filter (is_wanted selection) (placed item_of encoded from.number from.at values)
 
 -- ---- what is printed
 
--- From byte `start` on, the bytes are the encodings of these lawful values and then `rest`. The wanted ones were printed, a line each.
--- They stopped where no further one follows, or, without `stopped`, where as many as the limit allows were printed.
-pub record AreListed {T : Type 0} (item_of : T → Item) (encoded : T → List ℕ) (Are : List T → Type 0) (NoneFollows : List T → List ℕ → Type 0)
-    (selection : Selection) (bytes : List ℕ) (start : ℕ) (stopped : Option Stopped) (old new : Option (List ℕ)) : Type 0 where
+-- The bytes are the encodings of these lawful values and then `rest`. They were listed from there to here: the wanted ones were printed,
+-- a line each. They stopped where no further one follows, or where as many as the limit allows were printed.
+pub record AreListed {T : Type 0} (item_of : T → Item) (encoded : T → List ℕ) (Are : List T → Type 0) (NoneFollows : List ℕ → Type 0)
+    (selection : Selection) (bytes : List ℕ) (from to : Listed) (old new : Option (List ℕ)) : Type 0 where
   pub values : List T
   pub rest : List ℕ
-  pub spelled : drop start bytes ≡ flat_map encoded values ++ rest
+  pub spelled : bytes ≡ flat_map encoded values ++ rest
   pub lawful : Are values
-  pub few : length (wanted_in item_of encoded selection start values) ≤ selection.limit
-  pub ends : MatchOption stopped (length (wanted_in item_of encoded selection start values) ≡ selection.limit)
-      (λ stop. NoneFollows values rest × (stop.at ≡ start + length (flat_map encoded values)) × (stop.count ≡ length values))
-  pub printed : Appends old new (flat_map (line selection.notation) (wanted_in item_of encoded selection start values))
+  pub byte : to.at ≡ from.at + length (flat_map encoded values)
+  pub number : to.number ≡ from.number + length values
+  pub limit : to.left + length (wanted_in item_of encoded selection from values) ≡ from.left
+  pub ends : 0 < to.left → NoneFollows rest
+  pub printed : Appends old new (flat_map (line selection.notation) (wanted_in item_of encoded selection from values))
 
 -- the records of a log were printed so
-abbrev pub ArePrinted : Limits → Selection → List ℕ → ℕ → Option Stopped → Option (List ℕ) → Option (List ℕ) → Type 0
-ArePrinted limits = AreListed of_record spelling (AreRecords limits 0) (λ records. Stops limits (latest 0 records))
+abbrev pub ArePrinted : Limits → Selection → List ℕ → Listed → Listed → Option (List ℕ) → Option (List ℕ) → Type 0
+ArePrinted limits selection bytes from to =
+    AreListed of_record spelling (λ records. AreRecords limits from.latest records × (to.latest ≡ latest from.latest records)) (Stops limits to.latest) selection bytes from to
 
 -- the entries of a part were printed so
-abbrev pub EntriesArePrinted : Limits → Selection → List ℕ → ℕ → Option Stopped → Option (List ℕ) → Option (List ℕ) → Type 0
-EntriesArePrinted limits = AreListed of_entry entry_spelling (AllByRecursion (IsEntry limits)) (λ entries. HasNoEntry limits)
+abbrev pub EntriesArePrinted : Limits → Selection → List ℕ → Listed → Listed → Option (List ℕ) → Option (List ℕ) → Type 0
+EntriesArePrinted limits = AreListed of_entry entry_spelling (AllByRecursion (IsEntry limits)) (HasNoEntry limits)

@@ -8,8 +8,8 @@
 //! let selection = Selection { from: 0, limit: 10, key: None, notation: Notation::Json };
 //! let (head, rest) = header_at(bytes)?;
 //! write_head(&head, selection.notation, out)?;
-//! let first = bytes.len() - rest.len();
-//! write_records(alloc, head.format, bytes, first, &selection, out)?;
+//! let first = selection.begin(bytes.len() - rest.len());
+//! write_records(alloc, head.format, rest, first, &selection, out)?;
 //! ```
 //!
 //! Begin with `listing.rt`, and with `specs/Listing.antt`, which says what is printed.
@@ -32,7 +32,7 @@ pub use escapes::{Shown, unescape};
 pub use fields::Fields;
 pub use form::{Form, Printer};
 pub use listing::{
-    Notation, Selection, Stopped, write_entries, write_head, write_part_head, write_records,
+    Listed, Notation, Selection, write_entries, write_head, write_part_head, write_records,
 };
 pub use pairs::{Lines, write_pair};
 pub use print_fault::PrintFault;

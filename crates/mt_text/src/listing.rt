@@ -1,5 +1,5 @@
 //! Prints the records of a log, or the entries of a part, whose bytes are in memory.
-ghost use Rattle.std.specs.Prelude.{◌≡◌, ◌≤◌, ◌∷◌, [], length, filter, IfOk, OnOk};
+ghost use Rattle.std.specs.Prelude.{◌≡◌, ◌<◌, ◌+◌, ◌^◌, ◌↔◌, ◌∷◌, [], length, filter, IfOk, OnOk, IsTrue};
 ghost use Rattle.std.specs.List.{flat_map};
 ghost use Rattle.std.specs.Io.KnownBytes.{Appends};
 ghost use Rattle.mt_words.specs.Limits.{limits_of};
@@ -37,6 +37,18 @@ pub struct Selection {
 }
 
 impl Selection {
+    /// Returns that nothing is listed, and the first record or entry begins at this byte.
+    pub fn begin(&self, at: usize) -> Listed
+        ensures { (result.at ≡ at) × (result.number ≡ 0) × (result.latest ≡ 0) × (result.left ≡ self.now.limit) }
+    {
+        Listed {
+            at,
+            number: 0,
+            latest: 0,
+            left: self.limit,
+        }
+    }
+
     /// Returns whether a record or an entry is wanted.
     fn wants(&self, placed: &Placed<'_>) -> bool
         ensures { result ≡ is_wanted self.now placed.now }
@@ -45,13 +57,26 @@ impl Selection {
     }
 }
 
-/// Where records or entries stop.
+/// How far the records of a log, or the entries of a part, are listed.
 #[derive(Clone, Copy, Debug)]
-pub struct Stopped {
-    /// The byte where no further one follows.
+pub struct Listed {
+    /// The byte where the next one begins.
     pub at: usize,
-    /// The number of those before it.
-    pub count: u64,
+    /// Its number.
+    pub number: u64,
+    /// The timestamp of the record before it, or 0.
+    pub latest: u64,
+    /// The most that are still printed.
+    pub left: u64,
+}
+
+impl Listed {
+    /// Returns whether no byte and no number passes 2^64 - 1 where so many bytes follow.
+    fn fits(&self, bytes: &[u8]) -> bool
+        ensures { IsTrue result ↔ ((self.now.at + length bytes.now < 2 ^ 64) × (self.now.number + length bytes.now + 1 < 2 ^ 64)) }
+    {
+        self.at <= usize::MAX - bytes.len() && self.number < u64::MAX - bytes.len() as u64
+    }
 }
 
 /// Prints the line of a log's header. Err: write error.
@@ -79,61 +104,84 @@ pub fn write_part_head<W: Write>(
     }
 }
 
-/// Prints the wanted records of this format from byte `start` on, each on a line. Returns where no record follows, or
-/// None if it stopped at the limit. Err: write error, or out of memory.
+/// Prints the wanted records of this format, each on a line: the bytes go on where those before are listed. Returns how far
+/// they are listed then: to where no record follows, or to the limit. Err: write error, or out of memory, as which the
+/// function also takes a byte or a number past 2^64 - 1.
 pub fn write_records<W: Write>(
     alloc: Global,
     format: Format,
     bytes: &[u8],
-    start: usize,
+    from: Listed,
     selection: &Selection,
     out: &mut W,
-) -> Result<Option<Stopped>, PrintFault>
-    requires { start ≤ length bytes.now }
-    ensures { IfOk result (λ stopped. ArePrinted (limits_of format) selection.now bytes.now start stopped (W.contents out.old) (W.contents out.new)) }
+) -> Result<Listed, PrintFault>
+    ensures { IfOk result (λ to. ArePrinted (limits_of format) selection.now bytes.now from to (W.contents out.old) (W.contents out.new)) }
 {
-    let mut rest = &bytes[start..];
-    let mut latest = 0;
-    let mut number = 0;
-    let mut left = selection.limit;
+    if !from.fits(bytes) {
+        return Err(PrintFault::Memory);
+    }
+    let mut rest = bytes;
+    let Listed {
+        mut number,
+        mut latest,
+        mut left,
+        ..
+    } = from;
     while left > 0 {
-        let at = bytes.len() - rest.len();
+        let at = from.at + (bytes.len() - rest.len());
         let Some((record, after)) = record_at(alloc, format, latest, rest)? else {
-            return Ok(Some(Stopped { at, count: number }));
+            break;
         };
         left -= write_wanted(&Placed::of_record(number, at, &record), selection, out)?;
         latest = record.timestamp();
         number += 1;
         rest = after;
     }
-    Ok(None)
+    let at = from.at + (bytes.len() - rest.len());
+    Ok(Listed {
+        at,
+        number,
+        latest,
+        left,
+    })
 }
 
-/// Does as `write_records`, but with the entries of a part of this format. Err: write error, or out of memory.
+/// Does as `write_records`, but with the entries of a part of this format.
 pub fn write_entries<W: Write>(
     alloc: Global,
     format: Format,
     bytes: &[u8],
-    start: usize,
+    from: Listed,
     selection: &Selection,
     out: &mut W,
-) -> Result<Option<Stopped>, PrintFault>
-    requires { start ≤ length bytes.now }
-    ensures { IfOk result (λ stopped. EntriesArePrinted (limits_of format) selection.now bytes.now start stopped (W.contents out.old) (W.contents out.new)) }
+) -> Result<Listed, PrintFault>
+    ensures { IfOk result (λ to. EntriesArePrinted (limits_of format) selection.now bytes.now from to (W.contents out.old) (W.contents out.new)) }
 {
-    let mut rest = &bytes[start..];
-    let mut number = 0;
-    let mut left = selection.limit;
+    if !from.fits(bytes) {
+        return Err(PrintFault::Memory);
+    }
+    let mut rest = bytes;
+    let Listed {
+        mut number,
+        mut left,
+        ..
+    } = from;
     while left > 0 {
-        let at = bytes.len() - rest.len();
+        let at = from.at + (bytes.len() - rest.len());
         let Some((entry, after)) = entry_at(alloc, format, rest)? else {
-            return Ok(Some(Stopped { at, count: number }));
+            break;
         };
         left -= write_wanted(&Placed::of_entry(number, at, &entry), selection, out)?;
         number += 1;
         rest = after;
     }
-    Ok(None)
+    let at = from.at + (bytes.len() - rest.len());
+    Ok(Listed {
+        at,
+        number,
+        left,
+        ..from
+    })
 }
 
 /// Prints a record or an entry if it is wanted. Returns how many lines that is.

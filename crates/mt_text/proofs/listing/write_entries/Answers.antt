@@ -13,5 +13,5 @@ loop-left-preserved-in_ok-left-2 g c =
     let rest = c.loop-left.rest.now in
     let after = c.in-Some.after.now in
     let next = rw c.in-Some.is at c.in_ok-entry.ensures in
-    one_more_so_far of_entry entry_spelling (AllByRecursion (IsEntry limits)) (AllByRecursion (IsEntry limits)) c.args.selection.now c.args.bytes.now c.args.start rest after _ _ _ _ _ _ _ _ c.loop-left.invariant
+    one_more_so_far of_entry entry_spelling (AllByRecursion (IsEntry limits)) (AllByRecursion (IsEntry limits)) c.args.selection.now c.args.bytes.now c.args.from rest after _ _ _ _ _ _ _ _ c.loop-left.invariant
     (entry_push limits rest after _ next) next.spelled (entry_some c.in-Some.entry) refl c.loop-left-test.true (rw c.of_entry.ensures at c.in_ok-left.ensures.count) (rw c.of_entry.ensures at c.in_ok-left.ensures.printed)

@@ -10,7 +10,7 @@ use Rattle.mt_text.proofs.listing.write_entries.Given as goal
 abbrev pub invariant-loop-left : goal.invariant-loop-left
 invariant-loop-left g l =
     let contents = g.W.Write.contents in
-    AreListedSoFar of_entry entry_spelling (AllByRecursion (IsEntry (limits_of l.format))) l.selection l.bytes l.start l.rest l.number l.left (contents l.fn.out) (contents l.out)
+    AreListedSoFar of_entry entry_spelling (AllByRecursion (IsEntry (limits_of l.format))) l.selection l.bytes l.from l.rest l.number l.left (contents l.fn.out) (contents l.out)
 
 abbrev pub decreases-loop-left : goal.decreases-loop-left
 decreases-loop-left g l = length l.rest

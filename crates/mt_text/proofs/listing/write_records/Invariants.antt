@@ -8,7 +8,7 @@ use Rattle.mt_text.proofs.listing.write_records.Given as goal
 abbrev pub invariant-loop-left : goal.invariant-loop-left
 invariant-loop-left g l =
     let contents = g.W.Write.contents in
-    AreListedSoFar of_record spelling (RecordsSoFar (limits_of l.format) l.latest) l.selection l.bytes l.start l.rest l.number l.left (contents l.fn.out) (contents l.out)
+    AreListedSoFar of_record spelling (RecordsSoFar (limits_of l.format) l.from.latest l.latest) l.selection l.bytes l.from l.rest l.number l.left (contents l.fn.out) (contents l.out)
 
 abbrev pub decreases-loop-left : goal.decreases-loop-left
 decreases-loop-left g l = length l.rest
