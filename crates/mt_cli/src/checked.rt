@@ -87,15 +87,38 @@ impl<'a> Checked<'a> {
         Ok(())
     }
 
-    /// Returns the first file that ends at the cutoff, as does the log that it belongs to.
+    /// Returns the first file that ends at the cutoff, as does the log that it belongs to. Of a worker's log it is the newest
+    /// segment that does, to which the worker may go on to append.
     fn log_of(&self, cutoff: u64) -> Option<u64> {
         for (number, log) in self.logs.iter().enumerate() {
-            let ends = matches!(log.front(), Some(front) if front.last() == cutoff);
-            if ends && self.last_of(log) == Some(cutoff) {
+            if matches!(log.front(), Some(front) if self.ends_log(front, cutoff)) {
                 return Some(number as u64);
             }
         }
         None
+    }
+
+    /// Returns whether a file ends at the cutoff, and no segment of its worker's log ends after that, or is newer and ends there.
+    fn ends_log(&self, file: &LogFront, cutoff: u64) -> bool {
+        if file.last() != cutoff {
+            return false;
+        }
+        let Some(segment) = file.head.segment else {
+            return true;
+        };
+        for front in self.logs.iter().filter_map(CheckedLog::front) {
+            let (last, other) = (front.last(), front.head.segment);
+            let is_beyond = match other {
+                Some(other) if other.worker == segment.worker => {
+                    last > cutoff || (last == cutoff && other.number > segment.number)
+                }
+                _ => false,
+            };
+            if is_beyond {
+                return false;
+            }
+        }
+        true
     }
 
     /// Returns the greatest timestamp of the logs.
@@ -117,25 +140,6 @@ impl<'a> Checked<'a> {
             version = front.version.max(version);
         }
         version
-    }
-
-    /// Returns the last timestamp of the log that this file belongs to: of a segment, the greatest of its worker's.
-    fn last_of(&self, log: &CheckedLog<'a>) -> Option<u64> {
-        let front = log.front()?;
-        let mut last = front.last();
-        let Some(segment) = front.head.segment else {
-            return Some(last);
-        };
-        for other in &self.logs {
-            let Some(front) = other.front() else {
-                continue;
-            };
-            match front.head.segment {
-                Some(other) if other.worker == segment.worker => last = last.max(front.last()),
-                _ => {}
-            }
-        }
-        Some(last)
     }
 
     /// Returns about how many bytes of memory recovery takes. None: the size of a file is not known.
