@@ -8,7 +8,7 @@ use crate::row::{Cell, Field, write_row};
 use crate::saving::Site;
 use mt_checkpoint::PlanFault;
 use mt_record::{Head, encode_log_header_2, encode_record, header_at, records_below};
-use mt_recover::{Failure, MOST_FILES, Refusal, check_parts};
+use mt_recover::{Failure, Refusal, check_parts};
 use mt_scan::{Checkpoint, Choice, choose};
 use mt_words::{Fault, Record};
 use std::io::{self, ErrorKind, Write};
@@ -94,7 +94,7 @@ impl<'a, R: Host> Run<'a, R> {
         if how.is_strict && losses.is_some() {
             return Ok(losses.map(Caveat::Losses));
         }
-        expect_room(self.names.parts.len())?;
+        self.expect_room(self.names.parts.len())?;
         let log = NewLog::above(site, checkpoint.end, checkpoint.begin)?;
         if !how.is_dry {
             for name in &self.names.parts {
@@ -126,20 +126,20 @@ impl<'a, R: Host> Run<'a, R> {
         Ok(choose(self.rt.alloc(), scans, u64::MAX)?)
     }
 
+    /// Refuses a further file beside so many, if the folder may not have it.
+    pub fn expect_room(&self, files: usize) -> Result<(), Refusal<'static>> {
+        if files as u64 >= self.folder.most_files {
+            return Err(Refusal::from(Failure::TooManyFiles));
+        }
+        Ok(())
+    }
+
     /// Returns why no log is begun.
     fn cannot_begin(&self, reason: &'static str, advice: &'static str) -> Halt<'static> {
         let reason = io::Error::new(ErrorKind::Unsupported, reason);
         let path = self.folder.path;
         Halt::stuck(self.rt.alloc(), "begin a log in", path, reason, advice)
     }
-}
-
-/// Refuses a further file beside so many, if recovery could not read all of them.
-pub fn expect_room(files: usize) -> Result<(), Refusal<'static>> {
-    if files >= MOST_FILES {
-        return Err(Refusal::from(Failure::TooManyFiles));
-    }
-    Ok(())
 }
 
 /// Returns the line of a log: how many updates were dropped, how many bytes it had, and how many it has.

@@ -10,8 +10,7 @@ use crate::progress::{Meter, count_all};
 use crate::request::CheckForm;
 use mt_record::Rest;
 use mt_recover::{
-    LogCheck, MOST_BYTES, Refusal, Window, check_logs, check_parts, fronts_of, hole_before,
-    start_of,
+    LogCheck, Refusal, Window, check_logs, check_parts, fronts_of, hole_before, start_of,
 };
 use mt_scan::Slot;
 use mt_words::{Fault, Memory};
@@ -150,7 +149,7 @@ impl<'a, R: Host> Run<'a, R> {
             Err(Fault::Header { .. }) => (0, WIDEST),
             Ok(_) | Err(_) => return Ok(None),
         };
-        match self.read_again(name, MOST_BYTES)? {
+        match self.read_again(name, self.folder.most_bytes)? {
             Some(bytes) if end < bytes.len() => {
                 let start = header_bytes(&bytes);
                 Ok(Some(Ending::of_log(self.rt.alloc(), format, &bytes, start, end)?))

@@ -9,7 +9,6 @@ use crate::request::NewFolder;
 use crate::row::{Cell, write_row};
 use crate::saving::{Site, make_folder};
 use mt_checkpoint::{Checkpoint, PlanFault};
-use mt_recover::MOST_FILES;
 use std::io::{self, BufWriter, Write};
 use std::mem;
 
@@ -17,7 +16,8 @@ use std::mem;
 const LOG: &str = "log.mtl";
 
 impl<'a, R: Host> Run<'a, R> {
-    /// Recovers the store and writes it into a new folder. As in a query, the store is not freed.
+    /// Recovers the store and writes it into a new folder, which may have as many files as the other. As in a query, the
+    /// store is not freed.
     pub fn checkpoint<O: Write, E: Write + Send>(
         &self,
         new: &NewFolder<'_>,
@@ -34,6 +34,9 @@ impl<'a, R: Host> Run<'a, R> {
             report.version,
             new.limit,
         )?;
+        if u64::from(checkpoint.parts()) >= self.folder.most_files {
+            return Err(Halt::from(PlanFault::Parts));
+        }
         write_all(self.rt, new, &checkpoint)?;
         let row = [
             ("checkpoint", Cell::Number(Some(u64::from(new.number)))),
@@ -52,15 +55,12 @@ impl<'a, R: Host> Run<'a, R> {
     }
 }
 
-/// Writes the parts of the checkpoint into the new folder, and then the log. Refuses more files than can be read.
+/// Writes the parts of the checkpoint into the new folder, and then the log.
 fn write_all<R: Host>(
     rt: &R,
     new: &NewFolder<'_>,
     checkpoint: &Checkpoint<'_>,
 ) -> Result<(), Halt<'static>> {
-    if usize::from(checkpoint.parts()) >= MOST_FILES {
-        return Err(Halt::from(PlanFault::Parts));
-    }
     make_folder(rt, new.path)?;
     let site = Site {
         rt,

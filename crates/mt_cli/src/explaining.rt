@@ -13,6 +13,9 @@ const NO_LOGS_BESIDE_PARTS: &str =
     "put the logs back; parts of a checkpoint are there: resume --no-logs begins a log above its \
      end, which loses what logs had from its begin on, unless they were deleted because it stands for them";
 
+/// What the system says if a process has too many open files (`EMFILE`).
+const TOO_MANY_OPEN: i32 = 24;
+
 /// Prints the second line of a failure: the name of the file with the fault, if these names have it; the reason that the
 /// system gave, if it gave one; and what to try. Err: write error.
 pub fn explain<E: Write>(refusal: &Refusal<'_>, names: &Names, err: &mut E) -> io::Result<()> {
@@ -28,6 +31,11 @@ pub fn explain<E: Write>(refusal: &Refusal<'_>, names: &Names, err: &mut E) -> i
         (Failure::List(_), Some(reason)) if reason.kind() == ErrorKind::NotADirectory => {
             "name the folder that the file is in, or print the file by records"
         }
+        (Failure::Open(_), Some(reason)) if reason.raw_os_error() == Some(TOO_MANY_OPEN) => {
+            "allow the process more open files, as by ulimit -n"
+        }
+        (Failure::Recovery(Fault::Source { .. } | Fault::PartSource { .. }), Some(reason))
+            if reason.kind() == ErrorKind::FileTooLarge => "allow more by --file-bytes",
         (Failure::Recovery(Fault::Header { .. }), _)
             if matches!(file, Some(name) if name.ends_with(".mtc")) => "print a part by records",
         (failure, _) => advice(failure),
@@ -80,7 +88,8 @@ fn advice(failure: &Failure<'_>) -> &'static str {
         Failure::Key =>
             "write two hexadecimal digits a byte, or text with --text; a key has at most 4,096 bytes",
         Failure::List(_) => "name a folder that can be read, whose names are UTF-8",
-        Failure::TooManyFiles => "keep at most 512 logs and parts in the folder",
+        Failure::TooManyFiles =>
+            "keep fewer logs and parts in the folder, or allow more by --files",
         Failure::Open(_) => "put the file back, or allow to read it",
         Failure::Recovery(fault) => advice_on(fault),
         Failure::Output => "write to an output that has room and stays open",
@@ -97,9 +106,7 @@ fn advice_on(fault: &Fault) -> &'static str {
         Fault::Record { .. } => {
             "put a good copy back; else see by check and records what follows, and save it into a new file by cut --skip"
         }
-        Fault::Source { .. } | Fault::PartSource { .. } => {
-            "make it a file that can be read, of at most 1,073,741,824 bytes"
-        }
+        Fault::Source { .. } | Fault::PartSource { .. } => "make it a file that can be read",
         Fault::Doubled { .. } =>
             "see both files by records, and keep the one that has more of this segment",
         Fault::Torn { .. } => {

@@ -3,7 +3,7 @@ use self::Kind::{Flag, From, List, Number, OneOf, UpTo, Value, Word};
 use clap::builder::ValueParser;
 use clap::{Arg, ArgAction, Command};
 use mt_record::ENOUGH_RECORDS;
-use mt_recover::{MOST_BYTES, MOST_PIECES, MOST_WORKERS};
+use mt_recover::{MOST_BYTES, MOST_FILES, MOST_PIECES, MOST_WORKERS};
 use mt_words::GREATEST_COLUMN;
 use std::alloc::{AllocError, Global};
 
@@ -85,6 +85,12 @@ pub const SHELL: Argument = argument! { "SHELL", OneOf(&["bash"]), "The shell" }
 
 pub const WORKERS: Argument =
     argument! { "workers", UpTo("N", MOST_WORKERS as u64, "4"), "Number of threads: 1 to 64" };
+
+pub const FILES: Argument = argument! { "files", UpTo("N", 65_536, "512"),
+    "The most logs and parts that the folder may have: 1 to 65536" };
+
+pub const FILE_BYTES: Argument = argument! { "file-bytes", UpTo("N", u64::MAX, "1073741824"),
+    "The most bytes that a log or part may have" };
 
 pub const PIECES: Argument = argument! { "pieces", UpTo("P", MOST_PIECES as u64, "512"),
     "Cut the keys into at most this many ranges, which threads replay: 1 to 4096" };
@@ -169,7 +175,9 @@ pub const BELOW: Argument = argument! { "below", From("TIMESTAMP", 0, u64::MAX),
     "Print only records with a timestamp below this one, for example the cutoff" };
 
 /// The arguments that say which store is recovered, and how.
-const RECOVERY: &[Argument] = &[FOLDER, WORKERS, VERBOSE, PROGRESS, PIECES];
+const RECOVERY: &[Argument] = &[
+    FOLDER, WORKERS, FILES, FILE_BYTES, VERBOSE, PROGRESS, PIECES,
+];
 
 /// Returns subcommands, each from its name, its arguments, what it does, and the text after its help.
 macro_rules! subcommands {
@@ -199,19 +207,19 @@ const QUESTIONS: &[Subcommand] = subcommands! {
 
 /// The other subcommands, which follow them in the help.
 const OTHERS: &[Subcommand] = subcommands! {
-    "shell", [FOLDER, WORKERS, VERBOSE, PROGRESS, PIECES, STRICT_SHELL, STATUS],
+    "shell", [FOLDER, WORKERS, FILES, FILE_BYTES, VERBOSE, PROGRESS, PIECES, STRICT_SHELL, STATUS],
         "Recovers once, then answers lines of standard input: report, get, history, range or dump, without DIR",
         "Example: printf 'get 666967\\ndump --json\\n' | mtrecover shell examples/store";
-    "audit", [FOLDER, WORKERS, VERBOSE, PROGRESS],
+    "audit", [FOLDER, WORKERS, FILES, FILE_BYTES, VERBOSE, PROGRESS],
         "Prints each version of a key that two or more surviving log updates share, with their records",
         "Example: mtrecover audit examples/store";
-    "check", [FOLDER, WORKERS, VERBOSE, PROGRESS, JSON, CHART, WIDTH],
+    "check", [FOLDER, WORKERS, FILES, FILE_BYTES, VERBOSE, PROGRESS, JSON, CHART, WIDTH],
         "Prints what is in each log, part and checkpoint, all that is wrong, and where recovery begins",
         "Example: mtrecover check examples/store";
-    "resume", [FOLDER, WORKERS, VERBOSE, PROGRESS, JSON, STRICT_RESUME, DRY_RUN, NO_LOGS],
+    "resume", [FOLDER, WORKERS, FILES, FILE_BYTES, VERBOSE, PROGRESS, JSON, STRICT_RESUME, DRY_RUN, NO_LOGS],
         "Makes the logs and parts those with which a server goes on after a crash; the store stays the same",
         "Example: mtrecover resume DIR --dry-run";
-    "checkpoint", [FOLDER, WORKERS, VERBOSE, PROGRESS, PIECES, OUT, NUMBER, PART_LIMIT],
+    "checkpoint", [FOLDER, WORKERS, FILES, FILE_BYTES, VERBOSE, PROGRESS, PIECES, OUT, NUMBER, PART_LIMIT],
         "Writes the store as a checkpoint and a log into a new folder",
         "Example: mtrecover checkpoint examples/store fresh";
     "records", [LOG_OR_PART, VERBOSE, FROM, LIMIT, RECORD_KEY, AT, JSON],
@@ -281,7 +289,9 @@ impl Subcommand {
 }
 
 // The help of some options names these limits.
-const _: () = prove!(MOST_WORKERS == 64 && MOST_PIECES == 4096 && MOST_BYTES == 1_073_741_824);
+const _: () = prove!(MOST_WORKERS == 64 && MOST_PIECES == 4096);
+
+const _: () = prove!(MOST_FILES == 512 && MOST_BYTES == 1_073_741_824);
 
 const _: () = prove!(ENOUGH_RECORDS == 8 && LEAST_WIDTH == 40 && GREATEST_WIDTH == 1000);
 

@@ -112,7 +112,7 @@ fn advice_on(fault: &PlanFault) -> &'static str {
             "run resume, which begins another log: all logs have ended; none if resume says so"
         }
         PlanFault::Version => "none: no update can be newer",
-        PlanFault::Parts => "give a greater --limit",
+        PlanFault::Parts => "give a greater --limit, or allow more by --files",
         PlanFault::Memory => "use a machine with more memory",
     }
 }

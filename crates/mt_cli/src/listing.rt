@@ -1,17 +1,20 @@
 //! Lists the files of a folder.
 use crate::host::Host;
-use mt_recover::{Failure, MOST_FILES, Refusal};
+use crate::request::Folder;
+use mt_recover::{Failure, Refusal};
 use std::alloc::{AllocError, Global};
 use std::{fs, io};
 
-/// Lists the logs and parts of the folder, which the endings of their names tell, each kind in byte order.
-pub fn list<'a, R: Host>(rt: &R, folder: &'a str) -> Result<Names, Refusal<'a>> {
-    let mut names = match read_names(rt, folder) {
+/// Lists the logs and parts of the folder, which the endings of their names tell, each kind in byte order. Refuses more than
+/// it may have.
+pub fn list<'a, R: Host>(rt: &R, folder: &Folder<'a>) -> Result<Names, Refusal<'a>> {
+    let path = folder.path;
+    let mut names = match read_names(rt, path) {
         Ok(names) => names,
-        Err(error) => return Err(Refusal::of(Failure::List(folder), error)),
+        Err(error) => return Err(Refusal::of(Failure::List(path), error)),
     };
     // Logs and parts count together.
-    if names.logs.len().saturating_add(names.parts.len()) > MOST_FILES {
+    if names.logs.len().saturating_add(names.parts.len()) as u64 > folder.most_files {
         return Err(Refusal::from(Failure::TooManyFiles));
     }
     names.logs.sort_unstable();

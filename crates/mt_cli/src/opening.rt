@@ -1,6 +1,6 @@
 //! Opens the files of a folder.
 use crate::host::{Host, Run};
-use mt_recover::{Failure, Inputs, MOST_BYTES, Refusal};
+use mt_recover::{Failure, Inputs, Refusal};
 use mt_scan::{LONGEST_BUFFER, Rack, ReaderSource, Slot};
 use mt_words::Memory;
 use std::alloc::Global;
@@ -98,7 +98,8 @@ impl<'a, R: Host> Run<'a, R> {
                 }
             };
             // None only if the slot is empty. No slot of a new rack is empty.
-            let source = ReaderSource::new(file, MOST_BYTES, slot).ok_or(Failure::Open(name))?;
+            let most = self.folder.most_bytes;
+            let source = ReaderSource::new(file, most, slot).ok_or(Failure::Open(name))?;
             sources.push(source)?;
         }
         Ok((sources, unopened))
@@ -123,10 +124,10 @@ impl<'a, R: Host> Run<'a, R> {
     }
 
     /// Reads the file of this name into memory once more, up to so many bytes. None: it is no regular file, as a pipe, or
-    /// cannot be read, or has more than `MOST_BYTES` bytes. Err: out of memory.
+    /// cannot be read, or has more bytes than a file of the folder may have. Err: out of memory.
     pub fn read_again(&self, name: &str, most: u64) -> Result<Option<Vec<u8>>, Memory> {
         match self.size_of(name) {
-            Some(size) if size <= MOST_BYTES => {}
+            Some(size) if size <= self.folder.most_bytes => {}
             _ => return Ok(None),
         }
         let mut bytes = Vec::new(self.rt.alloc());
@@ -150,8 +151,8 @@ impl<'a, R: Host> Run<'a, R> {
         metadata.is_file().then_some(metadata.len())
     }
 
-    /// Returns why the file of this name cannot be read as a whole: it cannot be opened, is a folder, has more than
-    /// `MOST_BYTES` bytes, or cannot be read. None: none of these is so now, or it is no file that can be read twice.
+    /// Returns why the file of this name cannot be read as a whole: it cannot be opened, is a folder, has more bytes than it
+    /// may have, or cannot be read. None: none of these is so now, or it is no file that can be read twice.
     pub fn why_unread(&self, name: &str) -> Option<io::Error> {
         let path = Path::new(self.folder.path)
             .join(self.rt.alloc(), name)
@@ -163,8 +164,8 @@ impl<'a, R: Host> Run<'a, R> {
         if metadata.is_dir() {
             return Some(ErrorKind::IsADirectory.into());
         }
-        if metadata.len() > MOST_BYTES {
-            let reason = "it is past the limit of 1,073,741,824 bytes; nothing of it is wrong";
+        if metadata.len() > self.folder.most_bytes {
+            let reason = "it has more bytes than --file-bytes allows; nothing of it is wrong";
             return Some(io::Error::new(ErrorKind::FileTooLarge, reason));
         }
         if !metadata.is_file() {

@@ -76,6 +76,10 @@ pub struct Folder<'a> {
     pub path: &'a str,
     /// The number of threads that work.
     pub workers: Workers,
+    /// The most logs and parts that it may have, together.
+    pub most_files: u64,
+    /// The most bytes that one of them may have.
+    pub most_bytes: u64,
     /// Whether a failure has a second line, which explains it, and what was lost or passed over is told after an answer.
     pub is_verbose: bool,
     /// How it is told how far the command has come.

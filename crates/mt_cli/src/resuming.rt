@@ -1,6 +1,6 @@
 //! Answers the subcommand `resume`: makes the files of a folder those with which a server goes on after a crash.
 use crate::answering::PRINTED_AT_ONCE;
-use crate::beginning::{NewLog, end_row, expect_room, log_row};
+use crate::beginning::{NewLog, end_row, log_row};
 use crate::caveat::Caveat;
 use crate::checked::CheckedPart;
 use crate::fates::{PartState, numbers_of};
@@ -47,7 +47,7 @@ impl<'a, R: Host> Run<'a, R> {
         let chosen = base.as_ref().map(|checkpoint| checkpoint.number);
         let begun = if start.window.cutoff == u64::MAX {
             let kept = parts.iter().filter(|part| !part.state.goes(chosen)).count();
-            expect_room(self.names.logs.len().saturating_add(kept))?;
+            self.expect_room(self.names.logs.len().saturating_add(kept))?;
             let end = base.as_ref().map_or(0, |checkpoint| checkpoint.end);
             let last = self.last_below_end(&site)?.max(end);
             Some(NewLog::above(&site, last, start.window.begin)?)

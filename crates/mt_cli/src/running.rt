@@ -7,7 +7,7 @@ use crate::grammar::{GREATEST_WIDTH, LEAST_WIDTH};
 use crate::halt::Halt;
 use crate::host::{self, Host, lock_folder};
 use crate::listing::{Names, list};
-use crate::request::{Command, FolderCommand};
+use crate::request::{Command, Folder, FolderCommand};
 use crate::words::command;
 use mt_recover::{Failure, Refusal};
 use std::env::{self, Env};
@@ -85,7 +85,7 @@ pub fn run_words<R: Host, I: Read + IsTerminal, O: Write, E: Write + Send>(
         }
     };
     // The lock ends with the program.
-    let (_lock, names) = match lock_and_list(rt, folder.path, task.lock()) {
+    let (_lock, names) = match lock_and_list(rt, folder, task.lock()) {
         Ok(locked) => locked,
         Err(halt) => {
             let none = Names::new(rt.alloc());
@@ -119,10 +119,10 @@ pub fn run_words<R: Host, I: Read + IsTerminal, O: Write, E: Write + Send>(
 /// Locks the folder, as the command asks, and returns the lock and the names of its files.
 fn lock_and_list<'a, R: Host>(
     rt: &R,
-    path: &'a str,
+    folder: &Folder<'a>,
     shared: Option<bool>,
 ) -> Result<(Option<R::File>, Names), Halt<'a>> {
-    let lock = lock_folder(rt, path, shared)?;
-    let names = list(rt, path)?;
+    let lock = lock_folder(rt, folder.path, shared)?;
+    let names = list(rt, folder)?;
     Ok((lock, names))
 }

@@ -3,9 +3,10 @@ ghost use Rattle.std.specs.Prelude.{◌≤◌, IfErr};
 
 use crate::explaining::{or_tell, tell};
 use crate::grammar::{
-    AT, BELOW, CHART, COLUMNS, COUNT, DRY_RUN, EXISTS, FOLDER, FROM, HEADER, JSON, KEY, LIMIT, LOG,
-    NO_LOGS, NUMBER, OUT, OUTPUT, PART_LIMIT, PIECES, PREFIX, PROGRESS, RECORD_KEY, SKIP, STATUS,
-    STRICT, STRICT_RESUME, STRICT_SHELL, TEXT, TO, VERBOSE, WIDTH, WORKERS, grammar,
+    AT, BELOW, CHART, COLUMNS, COUNT, DRY_RUN, EXISTS, FILE_BYTES, FILES, FOLDER, FROM, HEADER,
+    JSON, KEY, LIMIT, LOG, NO_LOGS, NUMBER, OUT, OUTPUT, PART_LIMIT, PIECES, PREFIX, PROGRESS,
+    RECORD_KEY, SKIP, STATUS, STRICT, STRICT_RESUME, STRICT_SHELL, TEXT, TO, VERBOSE, WIDTH,
+    WORKERS, grammar,
 };
 use crate::listing::Names;
 use crate::progress::Telling;
@@ -117,6 +118,8 @@ fn of_folder<'a>(
     let folder = Folder {
         path: found(matches.get_str(FOLDER.name))?,
         workers: found(matches.get_one(WORKERS.name).and_then(Workers::new))?,
+        most_files: found(matches.get_one(FILES.name))?,
+        most_bytes: found(matches.get_one(FILE_BYTES.name))?,
         is_verbose: matches.get_flag(VERBOSE.name),
         telling: if matches.get_flag(PROGRESS.name) {
             Telling::Lines
