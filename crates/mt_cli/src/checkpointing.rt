@@ -4,11 +4,12 @@ ghost use Rattle.std.specs.Prelude.{◌<◌, length};
 use crate::answering::PRINTED_AT_ONCE;
 use crate::caveat::{Caveat, Losses};
 use crate::halt::Halt;
-use crate::host::{Host, Run};
+use crate::host::{Host, Lock, Run};
 use crate::request::NewFolder;
 use crate::row::{Cell, write_row};
 use crate::saving::{Site, make_folder};
 use mt_checkpoint::{Checkpoint, PlanFault};
+use std::fs::{File, OpenFile};
 use std::io::{self, BufWriter, Write};
 use std::mem;
 
@@ -55,7 +56,7 @@ impl<'a, R: Host> Run<'a, R> {
     }
 }
 
-/// Writes the parts of the checkpoint into the new folder, and then the log.
+/// Writes the parts of the checkpoint into the new folder, which is locked meanwhile, and then the log.
 fn write_all<R: Host>(
     rt: &R,
     new: &NewFolder<'_>,
@@ -67,6 +68,7 @@ fn write_all<R: Host>(
         folder: new.path,
         advice: "delete the new folder, which is no store yet, and run it again",
     };
+    let _lock = site.tell("lock", new.path, lock_at(rt, new.path))?;
     for part in 0..checkpoint.parts() {
         let name = format!(in rt.alloc(); "{}-{part}.mtc", new.number)?;
         let written = write_part(&site, checkpoint, part, name.as_str());
@@ -78,6 +80,13 @@ fn write_all<R: Host>(
     checkpoint.append_log(&mut log)?;
     site.write(LOG, LOG, &log)?;
     site.sync()
+}
+
+/// Locks the folder of this path until what is returned is dropped.
+fn lock_at<R: Host>(rt: &R, path: &str) -> io::Result<R::File> {
+    let folder = File::open(rt, path)?;
+    folder.lock_at_once(false)?;
+    Ok(folder)
 }
 
 /// Writes a part into a new file of this name, in one step.
