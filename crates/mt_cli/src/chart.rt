@@ -281,8 +281,8 @@ fn write_blanks<W: Write>(count: usize, out: &mut W) -> io::Result<()> {
     Ok(())
 }
 
-/// The bytes of a log that are read to find its first record, which has fewer.
-const READ: u64 = 1 << 23;
+/// The pieces of a log that are read to find its first record, which has fewer bytes than these.
+const READ: u64 = 8;
 
 impl<'a, R: Host> Run<'a, R> {
     /// Prints a chart of what was checked, in lines of this width, or of the usual one.
@@ -302,10 +302,10 @@ impl<'a, R: Host> Run<'a, R> {
 
     /// Returns the timestamp of the first record of the log of this name. None: it has none, or cannot be read again.
     fn first_of(&self, name: &str) -> Result<Option<u64>, Memory> {
-        let Some(bytes) = self.read_again(name, READ)? else {
+        let Some(file) = self.read_again(name, READ)? else {
             return Ok(None);
         };
-        let Some((head, rest)) = header_at(&bytes) else {
+        let Some((head, rest)) = header_at(&file.held) else {
             return Ok(None);
         };
         match record_at(self.rt.alloc(), head.format, 0, rest)? {

@@ -2,20 +2,21 @@
 use crate::answering::PRINTED_AT_ONCE;
 use crate::caveat::Caveat;
 use crate::checked::{Checked, CheckedFile, CheckedLog, CheckedPart};
-use crate::ending::{Ending, WIDEST, header_bytes};
+use crate::ending::Ending;
 use crate::fates::PartState;
 use crate::halt::Halt;
 use crate::host::{Host, Run};
+use crate::intake::{Intake, LogIntake, unread};
 use crate::progress::{Meter, count_all};
 use crate::request::CheckForm;
-use mt_record::Rest;
+use mt_record::{Head, Rest, encode_head};
 use mt_recover::{
-    LogCheck, Refusal, Window, check_logs, check_parts, fronts_of, hole_before, start_of,
+    Failure, LogCheck, Refusal, Window, check_logs, check_parts, fronts_of, hole_before, start_of,
 };
 use mt_scan::Slot;
 use mt_words::{Fault, Memory};
 use std::alloc::Global;
-use std::io::{BufWriter, Write};
+use std::io::{BufWriter, Read, Write};
 
 /// What a check finds in each log.
 type Checks = Vec<Result<LogCheck, Fault>>;
@@ -141,22 +142,45 @@ impl<'a, R: Host> Run<'a, R> {
         name: &str,
         check: &Result<LogCheck, Fault>,
     ) -> Result<Option<Ending>, Memory> {
-        let (end, format) = match check {
-            Ok(check) if check.front.rest != Rest::Nothing => {
-                (check.front.bytes as usize, check.front.head.format)
-            }
+        let head = match check {
+            Ok(check) if check.front.rest != Rest::Nothing => Some(check.front.head),
             // Without a header all bytes are left.
-            Err(Fault::Header { .. }) => (0, WIDEST),
+            Err(Fault::Header { .. }) => None,
             Ok(_) | Err(_) => return Ok(None),
         };
-        match self.read_again(name, self.folder.most_bytes)? {
-            Some(bytes) if end < bytes.len() => {
-                let start = header_bytes(&bytes);
-                Ok(Some(Ending::of_log(self.rt.alloc(), format, &bytes, start, end)?))
-            }
-            _ => Ok(None),
+        let alloc = self.rt.alloc();
+        let Some(file) = self.read_again(name, 1)? else {
+            return Ok(None);
+        };
+        match ending_in(alloc, file, head) {
+            Ok(ending) => Ok(ending),
+            Err(
+                Refusal {
+                    failure: Failure::Recovery(Fault::Memory),
+                    ..
+                },
+            ) => Err(Memory),
+            Err(_) => Ok(None),
         }
     }
+}
+
+/// Reads what follows the records of the log of this header, or without a header all of the file. None: nothing.
+fn ending_in<F: Read + Drop>(
+    alloc: Global,
+    file: Intake<F>,
+    head: Option<Head>,
+) -> Result<Option<Ending>, Refusal<'static>> {
+    let mut file = file;
+    let Some(head) = head else {
+        file.read(u64::MAX).map_err(unread)?;
+        return Ok(Ending::of_all(alloc, &file)?);
+    };
+    let header = encode_head(alloc, head)?.len();
+    file.pass(header);
+    let mut log = LogIntake::new(alloc, file, head)?;
+    log.read_rest()?;
+    Ending::of_log(alloc, &log)
 }
 
 /// Returns where the hole before each log begins, None if there is none, or the fault of the first log that has one.

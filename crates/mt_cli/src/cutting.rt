@@ -1,19 +1,21 @@
 //! Answers the subcommand `cut`.
-ghost use Rattle.std.specs.Prelude.{◌≤◌, length, IfSome};
-
 use crate::answering::PRINTED_AT_ONCE;
+use crate::halt::Halt;
 use crate::host::Host;
+use crate::intake::{LogIntake, Reached, open};
 use crate::request::Cut;
 use crate::stop::Stop;
 use mt_record::{
-    Head, LogFeed, LogFront, Segment, Stretch, cut_log, encode_head, header_at, salvage_records,
+    Head, KeptRecords, LogFeed, Segment, Stretch, encode_head, header_at, part_header_at,
+    salvage_records,
 };
-use mt_recover::{Refusal, read_log};
+use mt_recover::Refusal;
 use mt_words::Fault;
 use std::alloc::Global;
-use std::io::Write;
+use std::io::{self, ErrorKind, Read, Write};
 
-/// Prints a log of complete records of the log, byte for byte, and tells on `err` what it leaves out.
+/// Prints a log of complete records of the log, byte for byte, as it reads them, and tells on `err` what it leaves out. It
+/// holds only what follows the first fault or torn tail.
 pub fn cut<'a, R: Host, O: Write, E: Write>(
     rt: &R,
     path: &'a str,
@@ -21,105 +23,163 @@ pub fn cut<'a, R: Host, O: Write, E: Write>(
     is_verbose: bool,
     out: &mut O,
     err: &mut E,
-) -> Result<(), Refusal<'a>> {
-    let bytes = read_log(rt, 0, path)?;
-    if how.is_skipping {
-        return Ok(salvage(rt.alloc(), &bytes, how, out, err)?);
-    }
-    let (front, log) = cut_out(rt.alloc(), &bytes)?;
-    let (head, records) = header_at(log).ok_or(Fault::Header { log: 0 })?;
-    let kept = how.kept(head.format, records);
-    let stop = Stop::of(rt.alloc(), &front, &bytes)?;
-    let end = if stop.is_some() || kept.len() < records.len() {
-        SegmentEnd::of(rt.alloc(), head, &[kept])?
-    } else {
-        None
+) -> Result<(), Halt<'a>> {
+    let mut file = open(rt, path)?;
+    let (head, first) = match how.header {
+        Some(head) => (head, 0),
+        None => match header_at(&file.held) {
+            Some((head, rest)) => (head, file.held.len().saturating_sub(rest.len())),
+            None if part_header_at(&file.held).is_some() => return Err(is_part(rt.alloc())),
+            None => return Err(Halt::from(Fault::Header { log: 0 })),
+        },
     };
-    out.write_all(&encode_head(rt.alloc(), head)?)?;
-    out.write_all(kept)?;
-    out.flush()?;
-    if let Some(stop) = stop {
-        // A write error is passed over.
-        let _ = writeln!(err, "mtrecover: left out: {stop}");
-        if is_verbose {
-            stop.tell_hints(path, err);
-        }
-    }
-    tell_end(end, err);
-    Ok(())
+    file.pass(first);
+    let log = LogIntake::new(rt.alloc(), file, head)?;
+    let cutter = Cutter::new(rt.alloc(), head, how, out)?;
+    Ok(cutter.cut(log, path, is_verbose, err)?)
 }
 
-/// Tells where a cut segment ends, if its end was cut.
-fn tell_end<E: Write>(end: Option<SegmentEnd>, err: &mut E) {
-    if let Some(end) = end {
-        end.tell(err);
-    }
+/// Returns that a part is not cut.
+fn is_part(alloc: Global) -> Halt<'static> {
+    let reason = io::Error::new(ErrorKind::Unsupported, "it begins with a part's header");
+    Halt::stuck(
+        alloc,
+        "cut",
+        "a part, which records prints",
+        reason,
+        "print it by records",
+    )
 }
 
-/// Does as `cut_log`, with the bytes as log 0.
-pub fn cut_out(alloc: Global, bytes: &[u8]) -> Result<(LogFront, &[u8]), Refusal<'static>> {
-    match cut_log(alloc, bytes) {
-        Ok(cut) => Ok(cut),
-        Err(fault) => Err(Refusal::from(fault.of_log(0))),
-    }
-}
-
-/// Prints the header and the records of all stretches of the log, and tells on `err` what was skipped.
-fn salvage<O: Write, E: Write>(
-    alloc: Global,
-    bytes: &[u8],
-    how: &Cut,
-    out: &mut O,
-    err: &mut E,
-) -> Result<(), Refusal<'static>> {
-    let (head, records) = head_of(how, bytes).ok_or(Fault::Header { log: 0 })?;
-    let stretches = salvage_records(alloc, head.format, 0, records)?;
-    let end = end_of(alloc, head, how, &stretches)?;
-    out.write_all(&encode_head(alloc, head)?)?;
-    for stretch in &stretches {
-        out.write_all(how.kept(head.format, stretch.kept))?;
-    }
-    out.flush()?;
-    tell_skipped(bytes.len() - records.len(), &stretches, err);
-    tell_end(end, err);
-    Ok(())
-}
-
-/// Returns where a segment of these stretches ends, if its last bytes are not printed.
-fn end_of(
+/// Prints a log that is cut.
+#[derive(Drop)]
+struct Cutter<'x, O> {
     alloc: Global,
     head: Head,
-    how: &Cut,
-    stretches: &[Stretch<'_>],
-) -> Result<Option<SegmentEnd>, Refusal<'static>> {
-    let mut kept = Vec::with_capacity(alloc, stretches.len())?;
-    let mut is_cut = false;
-    for stretch in stretches {
-        let printed = how.kept(head.format, stretch.kept);
-        is_cut = printed.len() < stretch.kept.len() || !stretch.skipped.is_empty();
-        kept.push(printed)?;
-    }
-    if is_cut {
-        return SegmentEnd::of(alloc, head, &kept);
-    }
-    Ok(None)
+    how: &'x Cut,
+    out: &'x mut O,
+    /// If the log is a segment, it reads what is printed.
+    feed: Option<LogFeed<KeptRecords>>,
+    /// Whether the last bytes of the log so far are not printed.
+    is_cut: bool,
 }
 
-/// Returns the header of the log, and the bytes that have its records: all bytes if a header is given, since its own is
-/// lost. None: no header is given, and the bytes begin with none.
-fn head_of<'a>(how: &Cut, bytes: &'a [u8]) -> Option<(Head, &'a [u8])>
-    ensures within { IfSome result (λ x. length x.1.now ≤ length bytes.now) }
-{
-    match how.header {
-        Some(head) => Some((head, bytes)),
-        None => header_at(bytes),
+impl<'x, O: Write> Cutter<'x, O> {
+    /// Prints the header of the log.
+    fn new(
+        alloc: Global,
+        head: Head,
+        how: &'x Cut,
+        out: &'x mut O,
+    ) -> Result<Cutter<'x, O>, Refusal<'static>> {
+        let header = encode_head(alloc, head)?;
+        out.write_all(&header)?;
+        let feed = match head.segment {
+            Some(_) => {
+                let mut feed = LogFeed::keeping(alloc);
+                // The feed keeps a fault.
+                let _ = feed.feed(&header);
+                Some(feed)
+            }
+            None => None,
+        };
+        Ok(Cutter {
+            alloc,
+            head,
+            how,
+            out,
+            feed,
+            is_cut: false,
+        })
+    }
+
+    /// Prints the records of the log, and tells on `err` what is left out or skipped, and where a segment then ends.
+    fn cut<F: Read + Drop, E: Write>(
+        self,
+        log: LogIntake<F>,
+        path: &str,
+        is_verbose: bool,
+        err: &mut E,
+    ) -> Result<(), Refusal<'static>> {
+        let mut cutter = self;
+        let mut log = log;
+        for _ in 0..u64::MAX {
+            cutter.print(log.held_to(log.before.at))?;
+            log.pass();
+            if !log.more()? {
+                break;
+            }
+        }
+        log.read_rest()?;
+        if cutter.how.is_skipping {
+            cutter.salvage(&log, err)?;
+        } else {
+            cutter.print(log.held_to(log.reached().at))?;
+            cutter.out.flush()?;
+            if let Some(stop) = Stop::of(cutter.alloc, &log)? {
+                cutter.is_cut = true;
+                // A write error is passed over.
+                let _ = writeln!(err, "mtrecover: left out: {stop}");
+                if is_verbose {
+                    stop.tell_hints(path, err);
+                }
+            }
+        }
+        if let Some(end) = cutter.end()? {
+            end.tell(err);
+        }
+        Ok(())
+    }
+
+    /// Prints those of these records that are kept.
+    fn print(&mut self, records: &[u8]) -> Result<(), Refusal<'static>> {
+        if records.is_empty() {
+            return Ok(());
+        }
+        let kept = self.how.kept(self.head.format, records);
+        if let Some(feed) = &mut self.feed {
+            for chunk in kept.chunks(PRINTED_AT_ONCE) {
+                let _ = feed.feed(chunk);
+                let _ = feed.drop_kept();
+            }
+        }
+        self.is_cut = kept.len() < records.len();
+        Ok(self.out.write_all(kept)?)
+    }
+
+    /// Prints the records of all stretches of the log that are not printed, and tells on `err` what was skipped.
+    fn salvage<F, E: Write>(
+        &mut self,
+        log: &LogIntake<F>,
+        err: &mut E,
+    ) -> Result<(), Refusal<'static>> {
+        let (format, held) = (self.head.format, log.file.held.as_slice());
+        let stretches = salvage_records(self.alloc, format, log.before.latest, held)?;
+        for stretch in &stretches {
+            self.print(stretch.kept)?;
+            self.is_cut = self.is_cut || !stretch.skipped.is_empty();
+        }
+        self.out.flush()?;
+        tell_skipped(log.before, &stretches, err);
+        Ok(())
+    }
+
+    /// Returns where the segment ends, if its last bytes are not printed.
+    fn end(&self) -> Result<Option<SegmentEnd>, Refusal<'static>> {
+        match (self.head.segment, &self.feed) {
+            (Some(segment), Some(feed)) if self.is_cut => {
+                let last = last_in(feed)?;
+                Ok(Some(SegmentEnd { segment, last }))
+            }
+            _ => Ok(None),
+        }
     }
 }
 
-/// Prints a line for each span of bytes that was skipped. The first stretch begins at the byte `start`.
-fn tell_skipped<E: Write>(start: usize, stretches: &[Stretch<'_>], err: &mut E) {
-    let mut end = start;
-    let mut records = 0usize;
+/// Prints a line for each span of bytes that was skipped, from where the records were read `before`.
+fn tell_skipped<E: Write>(before: Reached, stretches: &[Stretch<'_>], err: &mut E) {
+    let mut end = before.at;
+    let mut records = before.count as usize;
     for stretch in stretches {
         let from = end.saturating_add(stretch.kept.len());
         end = from.saturating_add(stretch.skipped.len());
@@ -143,21 +203,6 @@ pub struct SegmentEnd {
 }
 
 impl SegmentEnd {
-    /// Returns where the log of this header and of these records, one list after another, ends. None: it is no segment.
-    pub fn of(
-        alloc: Global,
-        head: Head,
-        records: &[&[u8]],
-    ) -> Result<Option<SegmentEnd>, Refusal<'static>> {
-        let Some(segment) = head.segment else {
-            return Ok(None);
-        };
-        Ok(Some(SegmentEnd {
-            segment,
-            last: last_of(alloc, head, records)?,
-        }))
-    }
-
     /// Prints what is lost if a later segment is there. A write error is passed over.
     pub fn tell<E: Write>(&self, err: &mut E) {
         let SegmentEnd { segment, last } = *self;
@@ -180,6 +225,11 @@ pub fn last_of(alloc: Global, head: Head, records: &[&[u8]]) -> Result<u64, Refu
             let _ = feed.drop_kept();
         }
     }
+    last_in(&feed)
+}
+
+/// Returns the last timestamp of the log that the feed has read. Err: out of memory.
+fn last_in(feed: &LogFeed<KeptRecords>) -> Result<u64, Refusal<'static>> {
     match feed.front() {
         Ok(front) => Ok(front.last()),
         Err(fault) => Err(Refusal::from(fault.of_log(0))),

@@ -1,6 +1,8 @@
 //! What follows the complete records of a log, or the entries of a part.
 use crate::hints::{Hints, zeros_at_end};
-use mt_record::{header_at, salvage_records};
+use crate::intake::{Intake, LogIntake, Reached};
+use mt_record::salvage_records;
+use mt_recover::Refusal;
 use mt_words::{Format, Memory};
 use std::alloc::Global;
 use std::io::Write;
@@ -31,21 +33,39 @@ pub struct Again {
 }
 
 impl Ending {
-    /// Returns what follows in a log of this format, whose complete records lie from the byte `start` to the byte `end`.
-    pub fn of_log(
+    /// Returns what follows the records of a log that was read to its end. None: nothing. Err: out of memory.
+    pub fn of_log<F>(
+        alloc: Global,
+        log: &LogIntake<F>,
+    ) -> Result<Option<Ending>, Refusal<'static>> {
+        let format = log.front()?.head.format;
+        let ending = Ending::of(alloc, format, log.before, log.reached().at, &log.file)?;
+        Ok((ending.bytes > 0).then_some(ending))
+    }
+
+    /// Returns what is in a log that has no header: all that its file holds. None: nothing. Err: out of memory.
+    pub fn of_all<F>(alloc: Global, file: &Intake<F>) -> Result<Option<Ending>, Memory> {
+        let ending = Ending::of(alloc, WIDEST, Reached::begin(0), 0, file)?;
+        Ok((ending.bytes > 0).then_some(ending))
+    }
+
+    /// Returns what follows in a log of this format, whose complete records end at the byte `end`. The file holds all bytes
+    /// from where they were read `before`.
+    fn of<F>(
         alloc: Global,
         format: Format,
-        bytes: &[u8],
-        start: usize,
+        before: Reached,
         end: usize,
+        file: &Intake<F>,
     ) -> Result<Ending, Memory> {
-        let again = Again::find(alloc, format, bytes, start, end)?;
-        let rest = bytes.get(end..).unwrap_or(&[]);
+        let held = file.held.as_slice();
+        let again = Again::find(alloc, format, before, held, end)?;
+        let rest = held.get(end.saturating_sub(before.at)..).unwrap_or(&[]);
         Ok(Ending {
             bytes: rest.len(),
             zeros: zeros_at_end(rest),
             again,
-            hints: Some(Hints::of(bytes, end, again)),
+            hints: Some(Hints::of(file.feeds, rest, end, again)),
         })
     }
 
@@ -82,29 +102,21 @@ impl Ending {
     }
 }
 
-/// Returns the number of bytes of the header of a log: 0 without one.
-pub fn header_bytes(bytes: &[u8]) -> usize {
-    match header_at(bytes) {
-        Some((_, rest)) => bytes.len().saturating_sub(rest.len()),
-        None => 0,
-    }
-}
-
 impl Again {
-    /// Returns where records go on, by the search of `salvage_records`. None: nowhere. Err: out of memory.
+    /// Returns where records go on behind the byte `end`, up to which they are complete, by the search of `salvage_records` in
+    /// the bytes from where they were read `before`. None: nowhere. Err: out of memory.
     fn find(
         alloc: Global,
         format: Format,
+        before: Reached,
         bytes: &[u8],
-        start: usize,
         end: usize,
     ) -> Result<Option<Again>, Memory> {
         let mut again: Option<Again> = None;
-        let mut at = start;
-        let searched = bytes.get(start..).unwrap_or(&[]);
-        for stretch in &salvage_records(alloc, format, 0, searched)? {
+        let mut at = before.at;
+        for stretch in &salvage_records(alloc, format, before.latest, bytes)? {
             // The first one has the complete records, if there are some.
-            if stretch.count > 0 && (at > start || start >= end) {
+            if stretch.count > 0 && (at > before.at || before.at >= end) {
                 let found = again.unwrap_or(Again { at, records: 0 });
                 again = Some(Again {
                     at: found.at,

@@ -2,20 +2,21 @@
 ghost use Rattle.std.specs.Prelude.{◌≤◌, length};
 
 use crate::answering::PRINTED_AT_ONCE;
-use crate::cutting::{cut, cut_out};
+use crate::cutting::cut;
 use crate::ending::WIDEST;
 use crate::halt::Halt;
 use crate::host::Host;
+use crate::intake::{Intake, LogIntake, open, unread};
 use crate::listing::Names;
 use crate::request::{Cut, FileCommand, FileQuery};
-use crate::saving::write_path;
+use crate::saving::{begin_path, finish_path, give_up_path};
 use crate::stop::Stop;
-use mt_record::{PartFault, PartFeed, PartHead, header_at, part_header_at};
-use mt_recover::{Refusal, read_log};
+use mt_record::{Head, PartFault, PartFeed, PartHead, header_at, part_header_at};
+use mt_recover::Refusal;
 use mt_text::{Selection, write_entries, write_head, write_part_head, write_records};
 use mt_words::Fault;
 use std::alloc::Global;
-use std::io::{self, BufWriter, ErrorKind, Write};
+use std::io::{self, BufWriter, ErrorKind, Read, Write};
 
 /// Answers a query on a file, and returns the exit status: 0 if all was printed, or what `Stop::status` says. What follows the
 /// complete records or entries is told on `err`. A log is not cut to a terminal.
@@ -71,10 +72,14 @@ fn cut_into<'a, R: Host, O: Write, E: Write>(
         cut(rt, path, how, is_verbose, out, err)?;
         return Ok(None);
     };
-    let mut bytes = Vec::new(rt.alloc());
-    cut(rt, path, how, is_verbose, &mut bytes, err)?;
-    write_path(rt, target, &bytes)?;
-    Ok(None)
+    let mut file = begin_path(rt, target, path)?;
+    match cut(rt, path, how, is_verbose, &mut file, err) {
+        Ok(()) => {
+            finish_path(rt, target, file)?;
+            Ok(None)
+        }
+        Err(halt) => Err(give_up_path(rt, target, halt)),
+    }
 }
 
 /// Tells where records or entries stop, and returns the exit status. If there is a name, tells what may have happened to the
@@ -93,7 +98,7 @@ fn tell_stop<E: Write>(stop: Option<Stop>, name: Option<&str>, err: &mut E) -> u
 }
 
 /// Prints the header of a log or a part, and its wanted records or entries from a byte on, or from the first one on,
-/// each on a line.
+/// each on a line. A log is printed as it is read. A part is held as a whole, since its end is printed first.
 fn records<'a, R: Host, O: Write>(
     rt: &R,
     path: &'a str,
@@ -101,48 +106,73 @@ fn records<'a, R: Host, O: Write>(
     at: Option<u64>,
     out: &mut O,
 ) -> Result<Option<Stop>, Refusal<'a>> {
-    let bytes = read_log(rt, 0, path)?;
+    let mut file = open(rt, path)?;
     let mut out = BufWriter::with_capacity(rt.alloc(), PRINTED_AT_ONCE, out)?;
-    match part_header_at(&bytes) {
-        Some((head, rest)) => {
-            let first = bytes.len() - rest.len();
-            of_part(rt.alloc(), &head, &bytes, first, at, selection, &mut out)
-        }
-        None => of_log(rt.alloc(), &bytes, at, selection, &mut out),
-    }
+    let Some((head, rest)) = part_header_at(&file.held) else {
+        return Ok(of_log(rt.alloc(), file, at, selection, &mut out)?);
+    };
+    let first = file.held.len().saturating_sub(rest.len());
+    file.read(u64::MAX).map_err(unread)?;
+    Ok(of_part(
+        rt.alloc(),
+        &head,
+        &file.held,
+        first,
+        at,
+        selection,
+        &mut out,
+    )?)
 }
 
 /// Prints the header of a log, if it has one, and its wanted records. Without a header they are read from a byte on, by
 /// format 2. Returns where they stop before the bytes do.
-fn of_log<O: Write>(
+fn of_log<F: Read + Drop, O: Write>(
     alloc: Global,
-    bytes: &[u8],
+    file: Intake<F>,
     at: Option<u64>,
     selection: &Selection,
     out: &mut O,
 ) -> Result<Option<Stop>, Refusal<'static>> {
-    let (format, first) = match header_at(bytes) {
+    let mut file = file;
+    let (head, first) = match header_at(&file.held) {
         Some((head, rest)) => {
             write_head(&head, selection.notation, out)?;
-            (head.format, bytes.len() - rest.len())
+            (head, file.held.len().saturating_sub(rest.len()))
         }
-        None if at.is_some() => (WIDEST, 0),
+        None if at.is_some() => (UNKNOWN, 0),
         None => return Err(Refusal::from(Fault::Header { log: 0 })),
     };
-    let start = start_at(at, first, bytes);
-    let begin = selection.begin(start);
-    let listed = write_records(alloc, format, &bytes[start..], begin, selection, out)?;
+    file.pass_to(at.map_or(first, |at| at as usize))
+        .map_err(unread)?;
+    let mut log = LogIntake::new(alloc, file, head)?;
+    let mut listed = selection.begin(log.file.at);
+    for _ in 0..u64::MAX {
+        let printed = listed.at.saturating_sub(log.file.at);
+        let bytes = log.file.held.get(printed..).unwrap_or(&[]);
+        listed = write_records(alloc, head.format, bytes, listed, selection, out)?;
+        log.pass();
+        if listed.left == 0 || !log.more()? {
+            break;
+        }
+    }
     out.flush()?;
     if listed.left == 0 {
         return Ok(None);
     }
-    if at.is_some() || listed.at == bytes.len() {
-        return Ok(Stop::at(alloc, format, bytes, start, listed.at)?);
+    log.read_rest()?;
+    if at.is_some() {
+        Stop::at(alloc, &log)
+    } else {
+        Stop::of(alloc, &log)
     }
-    // What is wrong there tells a second reading.
-    let (front, _) = cut_out(alloc, bytes)?;
-    Ok(Stop::of(alloc, &front, bytes)?)
 }
+
+/// The header by which a log is read that has lost its own.
+const UNKNOWN: Head = Head {
+    format: WIDEST,
+    from: 0,
+    segment: None,
+};
 
 /// Prints the header of a part and its wanted entries, the first of which begins at byte `first`. Returns where they
 /// stop before the footer does.

@@ -15,17 +15,17 @@ pub struct Hints {
 }
 
 impl Hints {
-    /// Returns the hints of a log, whose complete records end at the byte `end`, and go on after it or do not.
-    pub fn of(bytes: &[u8], end: usize, again: Option<Again>) -> Hints {
-        let next = match again {
-            Some(again) => again.at,
-            None => bytes.len(),
+    /// Returns the hints of a log, from the line feeds of its bytes. The rest of them, from the byte `end` on, follows its
+    /// complete records, which go on there or do not.
+    pub fn of(feeds: Feeds, rest: &[u8], end: usize, again: Option<Again>) -> Hints {
+        let damaged = match again {
+            Some(again) => rest.get(..again.at.saturating_sub(end)).unwrap_or(&[]),
+            None => rest,
         };
-        let damaged = bytes.get(end..next).unwrap_or(&[]);
         Hints {
-            feeds: feeds_of(bytes),
+            feeds: feeds.number(),
             zeros: zeros_in(damaged, end),
-            length: (again.is_some() && is_too_long(bytes, end)).then_some(end),
+            length: (again.is_some() && is_too_long(rest)).then_some(end),
         }
     }
 
@@ -53,25 +53,49 @@ impl Hints {
     }
 }
 
-/// Returns the number of line feeds. None: there is none, or one does not follow a carriage return.
-fn feeds_of(bytes: &[u8]) -> Option<usize> {
-    let mut feeds = 0usize;
-    let mut before = 0;
-    for byte in bytes {
-        if *byte == b'\n' {
-            if before != b'\r' {
-                return None;
-            }
-            feeds = feeds.saturating_add(1);
-        }
-        before = *byte;
-    }
-    (feeds > 0).then_some(feeds)
+/// The line feeds of bytes that come in pieces.
+#[derive(Clone, Copy)]
+pub struct Feeds {
+    /// The number of those so far.
+    count: usize,
+    /// Whether one does not follow a carriage return.
+    has_plain: bool,
+    /// The last byte, or 0.
+    before: u8,
 }
 
-/// Returns whether the record at this byte has a length that goes past the end.
-fn is_too_long(bytes: &[u8], at: usize) -> bool {
-    let rest = bytes.get(at..).unwrap_or(&[]);
+impl Feeds {
+    /// Creates the line feeds of no bytes.
+    pub fn new() -> Feeds {
+        Feeds {
+            count: 0,
+            has_plain: false,
+            before: 0,
+        }
+    }
+
+    /// Counts those of the next piece, unless one so far does not follow a carriage return.
+    pub fn add(&mut self, piece: &[u8]) {
+        for byte in piece {
+            if self.has_plain {
+                return;
+            }
+            if *byte == b'\n' {
+                self.has_plain = self.before != b'\r';
+                self.count = self.count.saturating_add(1);
+            }
+            self.before = *byte;
+        }
+    }
+
+    /// Returns their number. None: there is none, or one does not follow a carriage return.
+    fn number(self) -> Option<usize> {
+        (self.count > 0 && !self.has_plain).then_some(self.count)
+    }
+}
+
+/// Returns whether the record at the front has a length that goes past the end.
+fn is_too_long(rest: &[u8]) -> bool {
     match rest.split_first_chunk::<4>() {
         Some((length, body)) => u32::from_be_bytes(*length) as usize > body.len(),
         None => false,

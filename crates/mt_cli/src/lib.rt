@@ -34,6 +34,7 @@ mod grammar;
 mod halt;
 mod hints;
 mod host;
+mod intake;
 mod listing;
 mod manual;
 mod opening;

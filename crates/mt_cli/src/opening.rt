@@ -1,5 +1,6 @@
 //! Opens the files of a folder.
 use crate::host::{Host, Run};
+use crate::intake::Intake;
 use mt_recover::{Failure, Inputs, Refusal};
 use mt_scan::{LONGEST_BUFFER, Rack, ReaderSource, Slot};
 use mt_words::Memory;
@@ -123,20 +124,19 @@ impl<'a, R: Host> Run<'a, R> {
         File::open(self.rt, &path)
     }
 
-    /// Reads the file of this name into memory once more, up to so many bytes. None: it is no regular file, as a pipe, or
-    /// cannot be read, or has more bytes than a file of the folder may have. Err: out of memory.
-    pub fn read_again(&self, name: &str, most: u64) -> Result<Option<Vec<u8>>, Memory> {
+    /// Reads the first pieces of the file of this name once more, so many at most. None: it is no regular file, as a pipe, or
+    /// cannot be read, or has more bytes than it may have. Err: out of memory.
+    pub fn read_again(&self, name: &str, pieces: u64) -> Result<Option<Intake<R::File>>, Memory> {
         match self.size_of(name) {
             Some(size) if size <= self.folder.most_bytes => {}
             _ => return Ok(None),
         }
-        let mut bytes = Vec::new(self.rt.alloc());
         let read = match self.open(name) {
-            Ok(file) => file.take(most).read_to_end(&mut bytes),
+            Ok(file) => Intake::of(self.rt.alloc(), file, pieces),
             Err(error) => Err(error),
         };
         match read {
-            Ok(_) => Ok(Some(bytes)),
+            Ok(file) => Ok(Some(file)),
             Err(error) if error.kind() == ErrorKind::OutOfMemory => Err(Memory),
             Err(_) => Ok(None),
         }

@@ -2,6 +2,7 @@
 use crate::halt::Halt;
 use crate::host::Host;
 use mt_record::PART_HEADER_BYTES;
+use mt_recover::{Failure, Refusal};
 use std::alloc::AllocError;
 use std::fs::{self, File, OpenFile, OpenOptions};
 use std::io::{self, ErrorKind, Read, Write};
@@ -194,16 +195,67 @@ pub fn make_folder<R: Host>(rt: &R, path: &str) -> Result<(), Halt<'static>> {
     }
 }
 
-/// Writes a file of this path, in one step, and syncs the folder that it is in. It keeps its owner, its group and its mode.
-pub fn write_path<R: Host>(rt: &R, path: &str, bytes: &[u8]) -> Result<(), Halt<'static>> {
-    let site = Site {
+/// What to try if a file cannot be written into a path.
+const FOR_PATH: &str = "name a file, in a folder that can be written";
+
+/// Returns the folder that a path is in.
+fn site_of<'t, R: Host>(rt: &'t R, path: &'t str) -> Site<'t, R> {
+    Site {
         rt,
         folder: parent_of(path),
-        advice: "name a file, in a folder that can be written",
-    };
+        advice: FOR_PATH,
+    }
+}
+
+/// Begins a file that is to get this path, as `Site::begin` does. Refuses if that would delete the file `input`.
+pub fn begin_path<R: Host>(rt: &R, path: &str, input: &str) -> Result<R::File, Halt<'static>> {
     let target = Path::new("").join(rt.alloc(), path)?;
-    site.tell("write", path, site.put(&target, &target, bytes, &[], &[]))?;
+    let unfinished = target.with_added_extension(rt.alloc(), UNFINISHED)?;
+    if are_one(rt, &unfinished, input) {
+        let reason = io::Error::new(
+            ErrorKind::AlreadyExists,
+            "FILE has the name that OUT has until it is whole",
+        );
+        let advice = "give FILE a name that does not end in .new";
+        return Err(Halt::stuck(rt.alloc(), "write", path, reason, advice));
+    }
+    let site = site_of(rt, path);
+    site.tell("write", path, site.begin(&target, &target))
+}
+
+/// Gives a file that was begun this path, in one step, and syncs the folder that it is in.
+pub fn finish_path<R: Host>(rt: &R, path: &str, file: R::File) -> Result<(), Halt<'static>> {
+    let target = Path::new("").join(rt.alloc(), path)?;
+    let site = site_of(rt, path);
+    site.tell("write", path, site.finish(file, &target))?;
     site.sync()
+}
+
+/// Deletes a file that was begun for this path, and returns why it is not written.
+pub fn give_up_path<'a, R: Host>(rt: &R, path: &str, halt: Halt<'a>) -> Halt<'a> {
+    if let Ok(target) = Path::new("").join(rt.alloc(), path) {
+        if let Ok(unfinished) = target.with_added_extension(rt.alloc(), UNFINISHED) {
+            // If it stays, it is ignored, as after a crash.
+            let _ = fs::remove_file(rt, &unfinished);
+        }
+    }
+    match halt {
+        Halt::Refused(
+            Refusal {
+                failure: Failure::Output,
+                reason: Some(error),
+            },
+        ) => Halt::stuck(rt.alloc(), "write", path, error, FOR_PATH),
+        halt => halt,
+    }
+}
+
+/// Returns whether both paths lead to one file.
+fn are_one<R: Host>(rt: &R, path: &PathBuf, other: &str) -> bool {
+    match (fs::metadata(rt, path), fs::metadata(rt, other)) {
+        (Ok(one), Ok(other)) => one.dev() == other.dev() && one.ino() == other.ino(),
+        _ => false,
+    }
 }
 
 /// Returns that something else than a file is there.

@@ -2,11 +2,13 @@
 ghost use Rattle.std.specs.Prelude.{◌≤◌};
 
 use crate::caveat::plural;
-use crate::ending::{Again, Ending, header_bytes};
+use crate::ending::{Again, Ending};
 use crate::hints::MANY_ZEROS;
-use mt_record::{FOOTER_BYTES, LogFront, Rest, footer_of};
+use crate::intake::LogIntake;
+use mt_record::{FOOTER_BYTES, Rest, footer_of};
+use mt_recover::Refusal;
 use mt_text::Listed;
-use mt_words::{Format, Memory, What};
+use mt_words::What;
 use std::alloc::Global;
 use std::fmt::{self, Display, Formatter, Write};
 use std::io;
@@ -36,21 +38,15 @@ enum Wrong {
 }
 
 impl Stop {
-    /// Returns where the records of these bytes stop. None: nothing follows them. Err: out of memory.
-    pub fn of(alloc: Global, front: &LogFront, bytes: &[u8]) -> Result<Option<Stop>, Memory> {
+    /// Returns where the records of a log stop that was read to its end. None: nothing follows them. Err: out of memory.
+    pub fn of<F>(alloc: Global, log: &LogIntake<F>) -> Result<Option<Stop>, Refusal<'static>> {
+        let front = log.front()?;
         let fault = match front.rest {
             Rest::Nothing => return Ok(None),
             Rest::Torn => Wrong::Torn,
             Rest::Faulty(what) => Wrong::Record(what),
         };
-        let format = front.head.format;
-        match Stop::at(
-            alloc,
-            format,
-            bytes,
-            header_bytes(bytes),
-            front.bytes as usize,
-        )? {
+        match Stop::at(alloc, log)? {
             Some(stop) => Ok(Some(Stop {
                 reason: Some((front.count, fault)),
                 ..stop
@@ -84,22 +80,16 @@ impl Stop {
         })
     }
 
-    /// Returns that records of this format, from the byte `start` on, stop at this byte. None: no byte follows.
-    pub fn at(
-        alloc: Global,
-        format: Format,
-        bytes: &[u8],
-        start: usize,
-        at: usize,
-    ) -> Result<Option<Stop>, Memory> {
-        if at >= bytes.len() {
+    /// Returns the byte where the records of a log stop that was read to its end. None: no byte follows. Err: out of memory.
+    pub fn at<F>(alloc: Global, log: &LogIntake<F>) -> Result<Option<Stop>, Refusal<'static>> {
+        let Some(ending) = Ending::of_log(alloc, log)? else {
             return Ok(None);
-        }
+        };
         Ok(Some(Stop {
             name: "record",
-            at,
+            at: log.reached().at,
             reason: None,
-            ending: Ending::of_log(alloc, format, bytes, start, at)?,
+            ending,
         }))
     }
 

@@ -1,6 +1,7 @@
 //! What recovery would find once damaged logs are cut.
 use crate::checked::Checked;
 use crate::cutting::cut;
+use crate::halt::Halt;
 use crate::host::{Host, Run};
 use crate::progress::{Meter, Telling};
 use crate::request::Cut;
@@ -128,10 +129,15 @@ impl<'a, R: Host> Run<'a, R> {
             &mut io::sink(),
         ) {
             Ok(()) => Ok(bytes),
-            Err(refusal) => Err(match refusal.failure {
-                Failure::Recovery(Fault::Memory) => Refusal::from(Fault::Memory),
-                _ => Refusal::from(Fault::Source { log }),
-            }),
+            Err(
+                Halt::Refused(
+                    Refusal {
+                        failure: Failure::Recovery(Fault::Memory),
+                        ..
+                    },
+                ),
+            ) => Err(Refusal::from(Fault::Memory)),
+            Err(_) => Err(Refusal::from(Fault::Source { log })),
         }
     }
 }
