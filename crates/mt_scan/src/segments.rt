@@ -98,7 +98,7 @@ fn has_same(fronts: &[LogFront], segment: Option<Segment>) -> bool
 }
 
 /// Returns whether both are segments of one worker's log, and the first has the lower number.
-fn is_earlier(a: Option<Segment>, b: Option<Segment>) -> bool
+pub fn is_earlier(a: Option<Segment>, b: Option<Segment>) -> bool
     ensures test { result ≡ is_earlier_in a b }
     ensures is { IsTrue result ↔ IsEarlier a b }
 {
@@ -120,7 +120,7 @@ pub fn is_just_before(a: Option<Segment>, b: Option<Segment>) -> bool
 }
 
 /// Returns whether both are the same segment.
-fn is_same(a: Option<Segment>, b: Option<Segment>) -> bool
+pub fn is_same(a: Option<Segment>, b: Option<Segment>) -> bool
     ensures { IsTrue result ↔ IsSame a b }
 {
     match (a, b) {
