@@ -1,0 +1,9 @@
+pub mod OneChanged
+pub mod Writes
+pub mod Refused
+pub mod Following
+pub mod Reaching
+pub mod Least
+pub mod Making
+pub mod Leaving
+pub mod NewLogs

@@ -1,0 +1,53 @@
+use Rattle.std.proofs.Common.{◌≡◌, inl, inr, ◌≤◌, ◌++◌, List, Some, refl, sym, ap, ◌∙◌, subst, arith}
+use Rattle.mt_record.specs.Logs.{log_bytes}
+use Rattle.mt_writer.specs.Files.{file_bytes}
+use Rattle.std.proofs.lemmas.Bool.{false≢true}
+use Rattle.mt_writer.specs.Journals.{Journal, Keeps, file_of, handed_out, taking}
+use Rattle.mt_laws.specs.Writing.{Slot, writing, hand_out}
+use Rattle.mt_keeper.specs.declared.keeper.Stage.{Stage}
+use Rattle.mt_keeper.specs.declared.keeper.Log.{Log}
+use Rattle.mt_keeper.specs.contracts.keeper.Keeper.{the_view}
+use Rattle.mt_keeper.specs.Keeping.{Keeping, Holds}
+use Rattle.mt_keeper.proofs.OneChanged.{reads, put_back}
+use Rattle.mt_keeper.proofs.Writes.{writes, kept_at, same_journal, same_records, records_taken}
+use Rattle.mt_keeper.proofs.Refused.{not_written}
+use Rattle.mt_keeper.proofs.keeper.Keeper.take.Goals as goal
+
+pub returns-in_default-stage : goal.returns-in_default-stage
+returns-in_default-stage c =
+    let k = the_view c.self.inside in
+    let x = c.in-Some.log.now in record {
+      step = λ s holds. tt;
+      bytes = λ s j holds at. tt;
+      err = ap (λ (logs : List Log). record k { logs = logs }) (put_back k.logs c.args.log x c.in-Some.ensures.value) ∙ c.self.view_is;
+      failed = λ is. absurd (false≢true (sym c.if-self.false ∙ ap (λ (y : Keeping). y.failed) c.self.view_is ∙ is));
+      fault = λ s holds. inr (inl (not_written k c.args.self.now c.args.log x c.self.view_is (reads k.logs c.args.log x c.in-Some.ensures.item.3.0 c.in-Some.ensures.value) c.in_default-stage.not-Writing));
+    }
+
+pub returns-in_default-take-clause-fault : goal.returns-in_default-take-clause-fault
+returns-in_default-take-clause-fault c = λ s holds.
+    let k = the_view c.self.inside in
+    let x = c.in-Some.log.now in
+    let kept = kept_at k s c.args.log x c.in-Writing.writer (subst (λ (y : Keeping). Holds y s) (sym c.self.view_is) holds)
+    (reads k.logs c.args.log x c.in-Some.ensures.item.3.0 c.in-Some.ensures.value) c.in-Writing.is in
+    inr (inr (refl, kept.journal, kept.at, λ none. false≢true ((c.in_default-take.ensures.accepted kept.journal kept.keeps).1 (kept.failed, none))))
+
+pub returns-clause-step : goal.returns-clause-step
+returns-clause-step c = λ s holds.
+    let k = the_view c.self.inside in
+    let here = subst (λ (y : Keeping). Holds y s) (sym c.self.view_is) holds in
+    let x = c.in-Some.log.now in
+    let w = c.in-Writing.writer in
+    let later = c.take.new.self in
+    writes k s c.args.log x w later k.clock s.clock taking here (reads k.logs c.args.log x c.in-Some.ensures.item.3.0 c.in-Some.ensures.value) c.in-Writing.is (omega arith) here.clock
+    (λ j keeps failed last. same_records k.clock w later j (taking j) keeps failed last c.take.ensures.same refl (records_taken j) (c.in-Some-take.ensures.writer j keeps))
+    (λ front back j keeps kept. hand_out s front back later j kept)
+
+pub returns-clause-bytes : goal.returns-clause-bytes
+returns-clause-bytes c = λ s j holds at.
+    let k = the_view c.self.inside in
+    let x = c.in-Some.log.now in
+    let kept = kept_at k s c.args.log x c.in-Writing.writer (subst (λ (y : Keeping). Holds y s) (sym c.self.view_is) holds)
+    (reads k.logs c.args.log x c.in-Some.ensures.item.3.0 c.in-Some.ensures.value) c.in-Writing.is in
+    let same = same_journal kept.journal j (sym kept.at ∙ at) in
+    subst (λ (i : Journal). log_bytes i.head (handed_out i) ++ c.in-Some-take.bytes.items ≡ file_bytes (file_of i)) same (c.in-Some-take.ensures.bytes kept.journal kept.keeps)

@@ -1,0 +1,121 @@
+//! Follows a segment of a log by the next one.
+ghost use Rattle.std.specs.Prelude.{◌≡◌, ◌⊎◌, ◌+◌, ◌<◌, ◌^◌, true, Some, None, Err, length, slice_get, IfOk, IfErr, OnErr};
+ghost use Rattle.mt_record.specs.Encoding.{segment_head};
+ghost use Rattle.mt_writer.specs.Journals.{Journal, Keeps, Begins, IsSealed};
+ghost use Rattle.mt_writer.specs.Refusing.{MayNotSeal};
+ghost use Rattle.mt_writer.specs.declared.writer_fault.WriterFault.TheVariants as writer_faults;
+ghost use Rattle.mt_laws.specs.Writing.{Server, Stands};
+ghost use Rattle.mt_keeper.specs.declared.keeper.Log.{Log as Entry};
+ghost use Rattle.mt_keeper.specs.Keeping.{Holds, IsFollowedBy};
+ghost use Rattle.mt_keeper.specs.Calling.{StepsToNext};
+ghost use Rattle.mt_keeper.specs.Refusals.{HasFailed, HasNoNext, IsNotWhole, IsUnsealable};
+ghost use Rattle.mt_keeper.specs.declared.keeper_fault.KeeperFault.TheVariants as faults;
+
+use crate::keeper::{Keeper, Log, Stage};
+use crate::keeper_fault::KeeperFault;
+use mt_record::Segment;
+use mt_writer::{LogWriter, NewLog, WriterFault};
+use std::alloc::Global;
+use std::mem;
+
+impl Keeper {
+    /// Returns the segment that the file is, for its name. None: it is no segment, or it is deleted, or there is no such log.
+    pub fn segment(&self, log: usize) -> Option<Segment>
+        ensures value { (entry : Entry) → slice_get self.now.logs log ≡ Some entry → result ≡ entry.segment }
+        ensures none { slice_get self.now.logs log ≡ None → result ≡ None }
+    {
+        let Some(log) = self.logs.get(log) else {
+            return None;
+        };
+        log.segment
+    }
+
+    /// Seals the log, which is the newest segment of a worker, and begins the next one, whose number it returns. The next
+    /// one's file is to be created (`bytes`). No record may be appended until then. Err: the log is as it was. `Early`: not
+    /// all of its records are synced.
+    pub fn begin_segment(&mut self, alloc: Global, log: usize) -> Result<usize, KeeperFault>
+        ensures step { (s : Server) → Stands s → Holds self.old s → IfOk result (λ next. (next ≡ length s.slots) × StepsToNext s log self.new) }
+        ensures err { OnErr result (self.new ≡ self.old) }
+        ensures failed { self.old.failed ≡ true → result ≡ Err (faults.Writer writer_faults.Failed) }
+        ensures fault { (s : Server) → Holds self.old s → IfErr result (λ fault.
+            HasFailed self.old fault ⊎ (HasNoNext (slice_get self.old.logs log) fault ⊎ IsNotWhole s log fault)) }
+    {
+        if self.failed {
+            return Err(WriterFault::Failed.into());
+        }
+        if self.logs.reserve(1).is_err() {
+            return Err(WriterFault::Memory.into());
+        }
+        let number = self.logs.len();
+        let Some(log) = self.logs.get_mut(log) else {
+            return Err(KeeperFault::Log);
+        };
+        match log.follow(alloc) {
+            Ok(next) => {
+                self.logs.push_reserved(next);
+                Ok(number)
+            }
+            Err(fault) => Err(fault),
+        }
+    }
+}
+
+impl Log {
+    /// Seals the file, and begins the next segment. Err: the log is as it was.
+    fn follow(&mut self, alloc: Global) -> Result<Log, KeeperFault>
+        ensures ok { IfOk result (IsFollowedBy self.old self.new) }
+        ensures err { OnErr result (self.new ≡ self.old) }
+        ensures fault { IfErr result (λ fault. HasNoNext (Some self.old) fault ⊎ IsUnsealable self.old fault) }
+    {
+        let Some(segment) = self.segment else {
+            return Err(KeeperFault::Log);
+        };
+        let stage = mem::replace(&mut self.stage, Stage::Gone);
+        let Stage::Writing(writer) = stage else {
+            self.stage = stage;
+            return Err(KeeperFault::Log);
+        };
+        match next_of(alloc, writer, segment) {
+            Ok(new) => {
+                let from = new.mark();
+                self.stage = Stage::Followed(from);
+                let number = segment.number + 1;
+                Ok(Log {
+                    segment: Some(Segment { number, ..segment }),
+                    from,
+                    stage: Stage::Coming(new),
+                })
+            }
+            Err((fault, writer)) => {
+                self.stage = Stage::Writing(writer);
+                Err(fault)
+            }
+        }
+    }
+}
+
+/// Seals the file of this segment, and begins the next one. Err: the writer as it was.
+fn next_of(
+    alloc: Global,
+    writer: LogWriter,
+    segment: Segment,
+) -> Result<NewLog, (KeeperFault, LogWriter)>
+    ensures begins { IfOk result (λ new. Begins new (segment_head new.mark segment.worker (segment.number + 1)) × (segment.number + 1 < 2 ^ 32)) }
+    ensures last { IfOk result (λ new. new.mark ≡ writer.last) }
+    ensures whole { (j : Journal) → Keeps writer j → j.head.segment ≡ Some segment → IfOk result (λ new. IsSealed new.mark segment.worker segment.number j) }
+    ensures err { IfErr result (λ err. err.1 ≡ writer) }
+    ensures fault { IfErr result (λ err. (err.0 ≡ faults.Writer writer_faults.Full) × (segment.number + 1 ≡ 2 ^ 32)
+        ⊎ ((err.0 ≡ faults.Writer writer_faults.Memory) ⊎ (err.0 ≡ faults.Early) × MayNotSeal writer)) }
+{
+    let Some(number) = segment.number.checked_add(1) else {
+        return Err((WriterFault::Full.into(), writer));
+    };
+    let last = writer.last();
+    match NewLog::segment(alloc, last, segment.worker, number, last) {
+        Err(_) => Err((WriterFault::Memory.into(), writer)),
+        Ok(new) => match writer.seal() {
+            Err(writer) => Err((KeeperFault::Early, writer)),
+            Ok(_) => Ok(new),
+        },
+    }
+}
