@@ -1,3 +1,4 @@
 pub mod Keeping
 pub mod Calling
 pub mod Refusals
+pub mod Restarting

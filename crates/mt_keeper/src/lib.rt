@@ -28,9 +28,11 @@ mod deleting;
 mod first;
 mod keeper;
 mod keeper_fault;
+mod resuming;
 mod segments;
 mod writing;
 
 pub use first::First;
 pub use keeper::Keeper;
 pub use keeper_fault::KeeperFault;
+pub use resuming::Restart;

@@ -1,0 +1,160 @@
+//! Goes on with the logs that a crash left.
+ghost use Rattle.std.specs.Prelude.{◌≡◌, ◌⊎◌, ◌+◌, ◌^◌, ◌↔◌, length, IsTrue, IsSomeAnd, IfOk, IfErr, OnErr};
+ghost use Rattle.std.specs.List.{list_any};
+ghost use Rattle.mt_scan.specs.Segments.{is_earlier as is_earlier_in};
+ghost use Rattle.mt_writer.specs.declared.writer_fault.WriterFault.TheVariants.{Full, Memory as MemoryFault};
+ghost use Rattle.mt_keeper.specs.Keeping.{latest_in};
+ghost use Rattle.mt_keeper.specs.Restarting.{without_logs, IsNoLog, HasSame, AddsNone, workers_with};
+ghost use Rattle.mt_keeper.specs.declared.keeper_fault.KeeperFault.TheVariants as faults;
+
+use crate::keeper::{Keeper, Log, Stage};
+use crate::keeper_fault::KeeperFault;
+use mt_record::{FeedFault, Segment, cut_log};
+use mt_scan::{is_earlier, is_same};
+use mt_writer::{LogWriter, WriterFault};
+use std::alloc::Global;
+use std::marker::Model;
+
+/// The logs that a crash left, with which a server goes on. Each was resumed (`resume_log` of `mt_record`), and its file
+/// replaced.
+#[derive(Drop)]
+pub struct Restart {
+    /// All logs are written, whether or not a later segment of theirs is there.
+    keeper: Keeper,
+}
+
+impl Model for Restart {
+    ghost use Rattle.mt_keeper.specs.Keeping.{Keeping};
+
+    ghost Value = { Keeping };
+
+    ghost view = { λ r. r.keeper };
+}
+
+impl Restart {
+    /// Begins without a log. `cutoff` is that of the recovery: the next stamp is the cutoff, or 1 if that is 0. `begin` is
+    /// that of the checkpoint that recovery chose, or 0. `number` is the greatest number of a part in the folder, or 0.
+    pub fn new(alloc: Global, cutoff: u64, begin: u64, number: u32) -> Restart
+        ensures { result ≡ without_logs cutoff begin number }
+    {
+        Restart {
+            keeper: Keeper {
+                clock: cutoff.saturating_sub(1),
+                logs: Vec::new(alloc),
+                workers: 0,
+                base: begin,
+                making: None,
+                next: number.saturating_add(1),
+                failed: false,
+            },
+        }
+    }
+
+    /// Adds the log of these bytes, and returns its number. Err: no log is added. `Log`: a writer may not go on with the
+    /// log (`LogWriter::resumed`), or it ends past the cutoff, or was ended, or is a segment that was added. `Full`: no
+    /// number is left for another worker.
+    pub fn add(&mut self, alloc: Global, bytes: &[u8]) -> Result<usize, KeeperFault>
+        ensures number { IfOk result (λ number. number ≡ length self.old.logs) }
+        ensures err { OnErr result (self.new ≡ self.old) }
+        ensures fault { IfErr result (AddsNone self.old bytes.now) }
+    {
+        let log = read_back(alloc, bytes, self.keeper.clock)?;
+        if has_same(&self.keeper.logs, log.segment) {
+            return Err(KeeperFault::Log);
+        }
+        let workers = next_worker(self.keeper.workers, log.segment)?;
+        if self.keeper.logs.reserve(1).is_err() {
+            return Err(WriterFault::Memory.into());
+        }
+        let number = self.keeper.logs.len();
+        self.keeper.logs.push_reserved(log);
+        self.keeper.workers = workers;
+        Ok(number)
+    }
+
+    /// Returns the keeper of these logs, after all were added. The newest segment of each worker may be written, and so may
+    /// each log that is no segment.
+    pub fn done(self) -> Keeper
+        ensures kept { result ≡ record self { logs = result.logs } }
+    {
+        let mut keeper = self.keeper;
+        settle(&mut keeper.logs);
+        keeper
+    }
+}
+
+impl Stage {
+    /// Returns the last timestamp of the file.
+    fn last(&self) -> u64
+        ensures { result ≡ latest_in self.now }
+    {
+        match self {
+            Stage::Coming(new) => new.mark(),
+            Stage::Writing(writer) => writer.last(),
+            Stage::Followed(last) => *last,
+            Stage::Going | Stage::Gone => 0,
+        }
+    }
+}
+
+/// Notes that the logs that a later segment follows are written no more.
+fn settle(logs: &mut [Log])
+    ensures { length logs.new ≡ length logs.old }
+{
+    for i in 0..logs.len() {
+        if has_later(logs, logs[i].segment) {
+            let last = logs[i].stage.last();
+            logs[i].stage = Stage::Followed(last);
+        }
+    }
+}
+
+/// Returns the log of these bytes, which may be written. Err: out of memory, or the bytes are no log that goes on.
+fn read_back(alloc: Global, bytes: &[u8], clock: u64) -> Result<Log, KeeperFault>
+    ensures fault { IfErr result (λ fault. (fault ≡ faults.Log) × IsNoLog clock bytes.now ⊎ (fault ≡ faults.Writer MemoryFault)) }
+{
+    let front = match cut_log(alloc, bytes) {
+        Ok((front, _)) => front,
+        Err(FeedFault::Memory) => return Err(WriterFault::Memory.into()),
+        Err(_) => return Err(KeeperFault::Log),
+    };
+    let Some(writer) = LogWriter::resumed(alloc, front) else {
+        return Err(KeeperFault::Log);
+    };
+    if front.latest == u64::MAX || front.latest.saturating_sub(1) > clock {
+        return Err(KeeperFault::Log);
+    }
+    Ok(Log {
+        segment: front.head.segment,
+        from: front.head.from,
+        stage: Stage::Writing(writer),
+    })
+}
+
+/// Returns the number of the next worker, with this segment. Err: no number is left.
+fn next_worker(workers: u32, segment: Option<Segment>) -> Result<u32, KeeperFault>
+    ensures ok { IfOk result (λ next. next ≡ workers_with workers segment) }
+    ensures fault { IfErr result (λ fault. (fault ≡ faults.Writer Full) × IsSomeAnd segment (λ segment. segment.worker + 1 ≡ 2 ^ 32)) }
+{
+    let Some(segment) = segment else {
+        return Ok(workers);
+    };
+    let Some(next) = segment.worker.checked_add(1) else {
+        return Err(WriterFault::Full.into());
+    };
+    Ok(workers.max(next))
+}
+
+/// Returns whether one of the logs is this segment.
+fn has_same(logs: &[Log], segment: Option<Segment>) -> bool
+    ensures { IsTrue result ↔ HasSame segment logs.now }
+{
+    logs.iter().any(|other| is_same(other.segment, segment))
+}
+
+/// Returns whether a later segment of the same log is there.
+fn has_later(logs: &[Log], segment: Option<Segment>) -> bool
+    ensures { result ≡ list_any (λ other. is_earlier_in segment other.segment) logs.now }
+{
+    logs.iter().any(|other| is_earlier(segment, other.segment))
+}
