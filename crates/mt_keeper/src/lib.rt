@@ -30,6 +30,8 @@ mod keeper;
 mod keeper_fault;
 mod resuming;
 mod segments;
+#[cfg(test)]
+mod tests;
 mod writing;
 
 pub use first::First;
