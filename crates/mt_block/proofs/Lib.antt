@@ -1,0 +1,9 @@
+pub mod Heads
+pub mod Splits
+pub mod Places
+pub mod Headers
+pub mod Files
+pub mod Errors
+pub mod Deciding
+pub mod Older
+pub mod Zeros
