@@ -3,6 +3,7 @@ pub mod Holes
 pub mod Audit
 pub mod History
 pub mod Report
+pub mod ReportText
 pub mod Laws
 pub mod Verdict
 pub mod Program

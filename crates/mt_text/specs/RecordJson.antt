@@ -10,7 +10,7 @@ use Rattle.mt_words.specs.declared.limits.Format.TheVariants.{One, Two}
 use Rattle.mt_record.specs.declared.feed.head.Head.{Head}
 use Rattle.mt_record.specs.declared.feed.head.Segment.{Segment}
 use Rattle.mt_record.specs.declared.part_text.PartHead.{PartHead}
-use Rattle.mt_text.specs.RecordText.{Item, Placed}
+use Rattle.mt_text.specs.RecordText.{Item, Placed, verb}
 
 -- ---- JSON
 
@@ -36,12 +36,9 @@ listed text (x ∷ xs) = text x ++ flat_map (after_comma text) xs
 abbrev pub column_json : ℕ × List ℕ → List ℕ
 column_json column = codes "\"" ++ (decimal column.0 ++ (codes "\":" ++ hex_json column.1))
 
--- what a change does
-abbrev pub kind_json : Kind → List ℕ
-kind_json (Put columns) = codes "\"put\""
-kind_json Remove = codes "\"remove\""
-kind_json (Whole columns) = codes "\"entry\""
-kind_json (Erase numbers) = codes "\"erase\""
+-- what a change does, as a string
+unfoldable pub kind_json : Kind → List ℕ
+kind_json kind = codes "\"" ++ (verb kind ++ codes "\"")
 
 -- the columns that it sets, or the numbers of those that it erases
 abbrev pub columns_json : Kind → List ℕ

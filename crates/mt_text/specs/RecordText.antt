@@ -54,10 +54,10 @@ set_word column = number_word column.0 ++ (codes "=" ++ hex_word column.1)
 
 -- what a change does
 abbrev pub verb : Kind → List ℕ
-verb (Put columns) = codes "put "
-verb Remove = codes "remove "
-verb (Whole columns) = codes "entry "
-verb (Erase numbers) = codes "erase "
+verb (Put columns) = codes "put"
+verb Remove = codes "remove"
+verb (Whole columns) = codes "entry"
+verb (Erase numbers) = codes "erase"
 
 -- the columns that it sets or erases
 abbrev pub column_words : Kind → List ℕ
@@ -72,7 +72,7 @@ time_words (Some timestamp) = number_word timestamp
 
 -- a change: what it does, its key, its version, its timestamp if there is one, and its columns
 abbrev pub change_words : Option ℕ → Change → List ℕ
-change_words timestamp change = verb change.kind ++ (hex_word change.key ++ (number_word change.version ++ (time_words timestamp ++ column_words change.kind)))
+change_words timestamp change = verb change.kind ++ (codes " " ++ (hex_word change.key ++ (number_word change.version ++ (time_words timestamp ++ column_words change.kind))))
 
 abbrev pub said_words : Option ℕ → Option Change → List ℕ
 said_words timestamp None = codes "mark" ++ time_words timestamp

@@ -7,6 +7,7 @@ ghost use Rattle.mt_text.specs.RecordJson.{after_comma, change_json, column_json
 
 use crate::digits::{write_decimal, write_hex};
 use crate::placed::Placed;
+use crate::words::verb_of;
 use mt_record::{Head, PartHead, Segment};
 use mt_words::{Change, Column, Format, Kind};
 use std::io::{self, Write};
@@ -93,7 +94,7 @@ fn write_item<W: Write>(placed: &Placed<'_>, out: &mut W) -> io::Result<()>
 fn write_change<W: Write>(change: &Change, timestamp: Option<u64>, out: &mut W) -> io::Result<()>
     ensures { OnOk result (Appends (W.contents out.old) (W.contents out.new) (change_json timestamp change.now)) }
 {
-    out.write_all(kind_of(&change.kind))?;
+    write_kind(&change.kind, out)?;
     write_name(b",", b"key", out)?;
     write_string(change.key.as_bytes(), out)?;
     write_name(b",", b"version", out)?;
@@ -102,16 +103,14 @@ fn write_change<W: Write>(change: &Change, timestamp: Option<u64>, out: &mut W) 
     write_columns(&change.kind, out)
 }
 
-/// Returns the name of what a change does.
-fn kind_of(kind: &Kind) -> &'static [u8]
-    ensures { result.now ≡ kind_json kind.now }
+/// Prints what a change does, as a string.
+#[tactic(auto, unfolding(crate::specs::RecordJson::kind_json))]
+fn write_kind<W: Write>(kind: &Kind, out: &mut W) -> io::Result<()>
+    ensures { OnOk result (Appends (W.contents out.old) (W.contents out.new) (kind_json kind.now)) }
 {
-    match kind {
-        Kind::Put(_) => b"\"put\"",
-        Kind::Remove => b"\"remove\"",
-        Kind::Whole(_) => b"\"entry\"",
-        Kind::Erase(_) => b"\"erase\"",
-    }
+    out.write_all(b"\"")?;
+    out.write_all(verb_of(kind))?;
+    out.write_all(b"\"")
 }
 
 /// Prints a timestamp, if there is one.

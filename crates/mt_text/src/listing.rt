@@ -71,7 +71,7 @@ pub struct Listed {
 }
 
 impl Listed {
-    /// Returns whether no byte and no number passes 2^64 - 1 where so many bytes follow.
+    /// Returns whether no byte and no number passes 2^64 - 1 if these bytes follow.
     fn fits(&self, bytes: &[u8]) -> bool
         ensures { IsTrue result ↔ ((self.now.at + length bytes.now < 2 ^ 64) × (self.now.number + length bytes.now + 1 < 2 ^ 64)) }
     {

@@ -1,10 +1,10 @@
 //! Values of a report.
-ghost use Rattle.std.specs.Prelude.{◌≡◌, ℕ, Some, OnOk, decimal, map};
+ghost use Rattle.std.specs.Prelude.{◌≡◌, ℕ, Some, OnOk, decimal, false, map, true};
 ghost use Rattle.std.specs.Fmt.{WritesOnOk};
 ghost use Rattle.std.specs.List.{flat_map};
 ghost use Rattle.std.specs.Io.KnownBytes.{Appends};
 ghost use Rattle.mt_text.specs.RecordJson.{after_comma};
-ghost use Rattle.mt_text.specs.Values.{numbers_words, value_words, value_json};
+ghost use Rattle.mt_text.specs.Values.{numbers_text, value_text};
 
 use std::fmt::{self, Display, Formatter};
 use std::io;
@@ -21,7 +21,7 @@ pub enum Value<'a> {
 
 /// Writes numbers with commas between them, or `none`.
 impl<'a> Display for Value<'a> {
-    ghost output = { λ value. Some (value_words value) };
+    ghost output = { λ value. Some (value_text false value) };
 
     fn fmt<W: fmt::Write>(&self, f: &mut Formatter<W>) -> fmt::Result {
         match self {
@@ -37,7 +37,7 @@ impl<'a> Display for Value<'a> {
 /// Writes numbers with commas between them, or `none`.
 fn write_list<T: Display, W: fmt::Write>(numbers: &[T], f: &mut Formatter<W>) -> fmt::Result
     ensures { (of : T → ℕ) → ((x : T) → T.output x ≡ Some (decimal (of x))) →
-        WritesOnOk W.write_str_gives f.old result (numbers_words (map of numbers.now)) f.new }
+        WritesOnOk W.write_str_gives f.old result (numbers_text false (map of numbers.now)) f.new }
 {
     let Some((first, rest)) = numbers.split_first() else {
         return f.write_str("none");
@@ -60,7 +60,7 @@ fn write_more<T: Display, W: fmt::Write>(numbers: &[T], f: &mut Formatter<W>) ->
 impl<'a> Value<'a> {
     /// Prints the value as JSON: a number, `null`, or an array. Err: write error.
     pub(crate) fn write_json<W: io::Write>(self, out: &mut W) -> io::Result<()>
-        ensures { OnOk result (Appends (W.contents out.old) (W.contents out.new) (value_json self.entry)) }
+        ensures { OnOk result (Appends (W.contents out.old) (W.contents out.new) (value_text true self.entry)) }
     {
         match self {
             Value::Perhaps(None) => out.write_all(b"null"),

@@ -104,6 +104,7 @@ fn write_change<W: Write>(change: &Change, timestamp: Option<u64>, out: &mut W) 
     ensures { OnOk result (Appends (W.contents out.old) (W.contents out.new) (change_words timestamp change.now)) }
 {
     out.write_all(verb_of(&change.kind))?;
+    out.write_all(b" ")?;
     write_bytes(change.key.as_bytes(), out)?;
     write_number(change.version, out)?;
     write_time(timestamp, out)?;
@@ -120,15 +121,15 @@ fn write_time<W: Write>(timestamp: Option<u64>, out: &mut W) -> io::Result<()>
     }
 }
 
-/// Returns what a change does, as a word and a space.
-fn verb_of(kind: &Kind) -> &'static [u8]
+/// Returns what a change does, as a word.
+pub(crate) fn verb_of(kind: &Kind) -> &'static [u8]
     ensures { result.now ≡ verb kind.now }
 {
     match kind {
-        Kind::Put(_) => b"put ",
-        Kind::Remove => b"remove ",
-        Kind::Whole(_) => b"entry ",
-        Kind::Erase(_) => b"erase ",
+        Kind::Put(_) => b"put",
+        Kind::Remove => b"remove",
+        Kind::Whole(_) => b"entry",
+        Kind::Erase(_) => b"erase",
     }
 }
 
