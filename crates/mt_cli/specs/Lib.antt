@@ -1,4 +1,5 @@
 pub mod Answers
 pub mod Ranges
 pub mod Rows
+pub mod Written
 pub mod Steps

@@ -3,6 +3,7 @@ use Rattle.std.specs.Prelude.{◌++◌, ⊤, Bool, true, false, Some, None, List
 use Rattle.std.specs.List.{flat_map}
 use Rattle.std.specs.Borrow.{Bor}
 use Rattle.mt_text.specs.Lines.{end_text, format_text, name_text, shown_text, word_text}
+use Rattle.mt_text.specs.Values.{value_text}
 use Rattle.mt_cli.specs.declared.row.Cell.{Cell}
 use Rattle.mt_cli.specs.declared.row.Cell.TheVariants as cells
 
@@ -17,9 +18,8 @@ is_there (name, cells.Format None) = false
 is_there (name, cells.Reason None) = false
 is_there field = true
 
--- a number, a word, a name, a format, or a value that the line does not have: of others no text is told
+-- the text of the value is known: it is not what is wrong in a log, what the system said, or a failure
 abbrev pub IsTold : Field → Type 0
-IsTold (name, cells.Value value) = ⊥
 IsTold (name, cells.What what) = ⊥
 IsTold (name, cells.Reason (Some reason)) = ⊥
 IsTold (name, cells.Failure failure) = ⊥
@@ -28,6 +28,7 @@ IsTold field = ⊤
 -- a value after its name, and after what stands before both: the first value of a line, or not
 abbrev pub field_text : Bool → Bool → Field → List ℕ
 field_text is_json is_first (name, cells.Number (Some number)) = name_text is_json is_first name.now ++ decimal number
+field_text is_json is_first (name, cells.Value value) = name_text is_json is_first name.now ++ value_text is_json value
 field_text is_json is_first (name, cells.Word word) = name_text is_json is_first name.now ++ word_text is_json word.now
 field_text is_json is_first (name, cells.Name text) = name_text is_json is_first name.now ++ shown_text is_json text.now
 field_text is_json is_first (name, cells.Format (Some head)) = format_text is_json is_first head.now

@@ -1,8 +1,9 @@
 //! Answers a query, from the recovered store or by an audit.
-ghost use Rattle.std.specs.Prelude.{◌≡◌, None, List, ℕ, OnOk};
+ghost use Rattle.std.specs.Prelude.{◌≡◌, None, List, ℕ, OnOk, false};
 ghost use Rattle.std.specs.Io.KnownBytes.{Appends};
 ghost use Rattle.mt_text.specs.Forms.{IsDump};
 ghost use Rattle.mt_text.specs.Pairs.{dump_text};
+ghost use Rattle.mt_recover.specs.ReportText.{report_text};
 ghost use Rattle.mt_cli.specs.Answers.{IsTextOf, IsAnswer};
 ghost use Rattle.mt_cli.specs.Ranges.{range_of};
 
@@ -109,7 +110,7 @@ pub fn print_answer<O: Write>(
     query: &StoreQuery,
     out: &mut O,
 ) -> Result<Option<Caveat>, Refusal<'static>>
-    ensures answered { OnOk result (IsAnswer query.now recovered.now.store (O.contents out.old) (O.contents out.new)) }
+    ensures answered { OnOk result (IsAnswer query.now recovered.now (O.contents out.old) (O.contents out.new)) }
 {
     let store = recovered.store();
     match query {
@@ -140,7 +141,9 @@ pub fn print_answer<O: Write>(
 }
 
 /// Prints the report, as lines or as one JSON object.
-fn print_report<O: Write>(report: &Report, is_json: bool, out: &mut O) -> io::Result<()> {
+fn print_report<O: Write>(report: &Report, is_json: bool, out: &mut O) -> io::Result<()>
+    ensures { is_json ≡ false → OnOk result (Appends (O.contents out.old) (O.contents out.new) (report_text report.now)) }
+{
     if !is_json {
         return write!(out, "{report}");
     }

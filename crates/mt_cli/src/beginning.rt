@@ -126,7 +126,7 @@ impl<'a, R: Host> Run<'a, R> {
         Ok(choose(self.rt.alloc(), scans, u64::MAX)?)
     }
 
-    /// Refuses a further file beside so many, if the folder may not have it.
+    /// Refuses one more file if the folder has this number of them and may have no more.
     pub fn expect_room(&self, files: usize) -> Result<(), Refusal<'static>> {
         if files as u64 >= self.folder.most_files {
             return Err(Refusal::from(Failure::TooManyFiles));

@@ -1,5 +1,7 @@
 //! Answers the subcommand `checkpoint`: writes the store of a folder as a checkpoint and a log into a new folder.
-ghost use Rattle.std.specs.Prelude.{◌<◌, length};
+ghost use Rattle.std.specs.Prelude.{◌-◌, ◌<◌, ◌^◌, length, IfOk, OnOk};
+ghost use Rattle.std.specs.Io.KnownBytes.{Appends};
+ghost use Rattle.mt_cli.specs.Written.{IsCheckpointOf, written_text};
 
 use crate::answering::PRINTED_AT_ONCE;
 use crate::caveat::{Caveat, Losses};
@@ -9,6 +11,8 @@ use crate::request::NewFolder;
 use crate::row::{Cell, write_row};
 use crate::saving::{Site, make_folder};
 use mt_checkpoint::{Checkpoint, PlanFault};
+use mt_recover::{Recovered, Report};
+use std::alloc::Global;
 use std::fs::{File, OpenFile};
 use std::io::{self, BufWriter, Write};
 use std::mem;
@@ -26,34 +30,52 @@ impl<'a, R: Host> Run<'a, R> {
         err: &mut E,
     ) -> Result<Option<Caveat>, Halt<'a>> {
         let recovered = self.recover(err)?;
-        let report = recovered.report();
-        let checkpoint = Checkpoint::plan(
-            self.rt.alloc(),
-            recovered.store().tree(),
-            new.number,
-            report.cutoff,
-            report.version,
-            new.limit,
-        )?;
+        let checkpoint = plan_of(self.rt.alloc(), new, &recovered)?;
         if u64::from(checkpoint.parts()) >= self.folder.most_files {
             return Err(Halt::from(PlanFault::Parts));
         }
         write_all(self.rt, new, &checkpoint)?;
-        let row = [
-            ("checkpoint", Cell::Number(Some(u64::from(new.number)))),
-            ("parts", Cell::Number(Some(u64::from(checkpoint.parts())))),
-            ("cutoff", Cell::Number(Some(report.cutoff))),
-            // The log of the new folder has a mark beyond the cutoff.
-            ("last", Cell::Number(report.cutoff.checked_add(1))),
-            ("version", Cell::Number(Some(report.version))),
-        ];
-        write_row(&row, false, out)?;
+        write_line(new.number, checkpoint.parts(), recovered.report(), out)?;
         out.flush()?;
-        self.folder.tell_losses(Losses::of(report), err);
+        self.folder.tell_losses(Losses::of(recovered.report()), err);
         mem::forget(checkpoint);
         mem::forget(recovered);
         Ok(None)
     }
+}
+
+/// Plans the checkpoint of what was recovered: at its cutoff, and its entries with the greatest version found.
+fn plan_of<'r>(
+    alloc: Global,
+    new: &NewFolder<'_>,
+    recovered: &'r Recovered,
+) -> Result<Checkpoint<'r>, PlanFault>
+    ensures { IfOk result (IsCheckpointOf new.now.number new.now.limit recovered.now) }
+{
+    let report = recovered.report();
+    Checkpoint::plan(
+        alloc,
+        recovered.store().tree(),
+        new.number,
+        report.cutoff,
+        report.version,
+        new.limit,
+    )
+}
+
+/// Prints the line of a checkpoint that was written. Its log has a mark beyond the cutoff. Err: write error.
+fn write_line<O: Write>(number: u32, parts: u16, report: &Report, out: &mut O) -> io::Result<()>
+    requires { report.now.cutoff < 2 ^ 64 - 1 }
+    ensures { OnOk result (Appends (O.contents out.old) (O.contents out.new) (written_text number parts report.now)) }
+{
+    let row = [
+        ("checkpoint", Cell::Number(Some(u64::from(number)))),
+        ("parts", Cell::Number(Some(u64::from(parts)))),
+        ("cutoff", Cell::Number(Some(report.cutoff))),
+        ("last", Cell::Number(Some(report.cutoff + 1))),
+        ("version", Cell::Number(Some(report.version))),
+    ];
+    write_row(&row, false, out)
 }
 
 /// Writes the parts of the checkpoint into the new folder, which is locked meanwhile, and then the log.

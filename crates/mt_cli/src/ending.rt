@@ -103,8 +103,8 @@ impl Ending {
 }
 
 impl Again {
-    /// Returns where records go on behind the byte `end`, up to which they are complete, by the search of `salvage_records` in
-    /// the bytes from where they were read `before`. None: nowhere. Err: out of memory.
+    /// Returns where records go on after the byte `end`, up to which they are complete. `salvage_records` searches the bytes
+    /// from where they were read `before`. None: nowhere. Err: out of memory.
     fn find(
         alloc: Global,
         format: Format,

@@ -25,7 +25,7 @@ pub struct Intake<F> {
 }
 
 impl<F: Read + Drop> Intake<F> {
-    /// Reads the first pieces of a file, so many at most. Err: read error, or out of memory.
+    /// Reads the first pieces of a file, at most this number of them. Err: read error, or out of memory.
     pub fn of(alloc: Global, file: F, pieces: u64) -> io::Result<Intake<F>> {
         let mut file = Intake {
             file: file.take(0),
@@ -37,7 +37,7 @@ impl<F: Read + Drop> Intake<F> {
         Ok(file)
     }
 
-    /// Reads the next piece behind the bytes that it holds. Returns the byte of these where the piece begins. None: the file
+    /// Reads the next piece after the bytes that it holds. Returns the byte of these where the piece begins. None: the file
     /// has ended. Err: read error, or out of memory.
     pub fn more(&mut self) -> io::Result<Option<usize>> {
         let before = self.held.len();
@@ -47,7 +47,7 @@ impl<F: Read + Drop> Intake<F> {
         Ok((count > 0).then_some(before))
     }
 
-    /// Reads so many pieces, or to the end of the file. Err: read error, or out of memory.
+    /// Reads this number of pieces, or to the end of the file. Err: read error, or out of memory.
     pub fn read(&mut self, pieces: u64) -> io::Result<()> {
         for _ in 0..pieces {
             if self.more()?.is_none() {
@@ -57,7 +57,7 @@ impl<F: Read + Drop> Intake<F> {
         Ok(())
     }
 
-    /// Passes over so many of the bytes that it holds, or over all of them.
+    /// Passes over this number of the bytes that it holds, or over all of them.
     pub fn pass(&mut self, count: usize) {
         let count = count.min(self.held.len());
         self.held.drain(..count);

@@ -41,7 +41,7 @@ The formats have no checksum: a changed value is not seen. Nor is a log that is 
 share/doc/mtrecover/RUNBOOK.md below the folder of the installation
 ";
 
-/// An argument of so many commands is told once.
+/// An argument of at least this number of commands is described once.
 const MANY: usize = 2;
 
 /// Prints the manual page as roff, the language of `man`. `statuses` is the text on exit statuses. Err: write error, or out

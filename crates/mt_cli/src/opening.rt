@@ -124,8 +124,8 @@ impl<'a, R: Host> Run<'a, R> {
         File::open(self.rt, &path)
     }
 
-    /// Reads the first pieces of the file of this name once more, so many at most. None: it is no regular file, as a pipe, or
-    /// cannot be read, or has more bytes than it may have. Err: out of memory.
+    /// Reads the first pieces of the file of this name once more, at most this number of them. None: it is no regular file,
+    /// as a pipe, or cannot be read, or has more bytes than it may have. Err: out of memory.
     pub fn read_again(&self, name: &str, pieces: u64) -> Result<Option<Intake<R::File>>, Memory> {
         match self.size_of(name) {
             Some(size) if size <= self.folder.most_bytes => {}

@@ -11,7 +11,7 @@ returns-in_ok-write_found-in-Get g c =
     let new = g.O.Write.contents c.write_found.new.out in
     record {
       answered = subst
-          (λ (query : StoreQuery). IsAnswer query c.args.recovered.now.store old new)
+          (λ (query : StoreQuery). IsAnswer query c.args.recovered.now old new)
           (sym c.in-Get.is)
           (λ is. subst (λ (pairs : List Pair). (text : List ℕ) × IsTextOf c.in-Get.key pairs text × Appends old new text) c.store-store.ensures (c.in_ok-write_found-in-Get.ensures is));
     }

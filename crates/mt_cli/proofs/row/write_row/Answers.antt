@@ -58,7 +58,11 @@ loop-name-preserved g c =
         is_json = λ told. rw w.line-is (front.is_json told);
         so_far = λ told. rw w.line-is (absent json first row i none (cells.Number None) old was less (w.in-Number.is ∙ ap (λ z. cells.Number z) w.in_default.is) refl (front.so_far told));
       }
-      | in-Value+in_ok-value-in-Value w ↦ let un = told_at row i _ _ less w.in-Value.is in record { same = λ told. absurd (un told); is_json = λ told. absurd (un told); so_far = λ told. absurd (un told) }
+      | in-Value+in_ok-value-in-Value w ↦ let e = w.in_ok-value-in-Value.ensures in record {
+        same = λ told. rw w.line-is (e.line.0 ∙ front.same told);
+        is_json = λ told. rw w.line-is (e.line.1 ∙ front.is_json told);
+        so_far = λ told. rw w.line-is (rw e.line.2 (printed json form first row i none (cells.Value w.in-Value.value) old was _ less (front.is_json told) w.in-Value.is refl (front.so_far told) e.value));
+      }
       | in-Word+in_ok-word-in-Word w ↦ let e = w.in_ok-word-in-Word.ensures in record {
         same = λ told. rw w.line-is (e.line.0 ∙ front.same told);
         is_json = λ told. rw w.line-is (e.line.1 ∙ front.is_json told);
