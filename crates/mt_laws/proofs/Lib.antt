@@ -51,3 +51,5 @@ pub mod ServerCalls
 pub mod ServerCrashes
 pub mod ServerRestarts
 pub mod SomeCalls
+pub mod Orders
+pub mod AnyOrder

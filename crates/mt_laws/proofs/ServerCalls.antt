@@ -26,7 +26,7 @@ use Rattle.mt_writer.proofs.JournalLemmas.{opens, written as file_written, synce
 use Rattle.mt_laws.specs.Crashes.{IsSound, IsSeenAt}
 use Rattle.mt_laws.specs.Lives.{IsBehind, AreOpen, IsSyncedAbove, AllSyncedAbove, LogOf, there, deleted, those_there, IsStillOrDeleted, updates_in, AreOld, BeginsRise, IsNewOver, AddNew, only, running, write, sync, acknowledge, add_file, write_checkpoint, stand, Life, begun as begun_life, then}
 use Rattle.mt_laws.specs.Names.{IsSyncedBefore, IsNew, IsLowest}
-use Rattle.mt_laws.specs.Writing.{Slot, coming, writing, sealed, going, gone, log_of, logs_of, files_of, updates_of, IsNewest, IsFresh, AllReached, IsStamped, stamp_or, clock_after, HasSeen, IsRead, IsWithin, Server, state_of, files_there, begin_now, with_slot, Stands, IsCall, append, hand_out, told_synced, count_up, begin_log, begin_segment, told_created, seal, tell_client, checkpoint, stand_on, delete, told_deleted}
+use Rattle.mt_laws.specs.Writing.{Slot, coming, writing, sealed, going, gone, log_of, logs_of, files_of, updates_of, IsNewest, IsFresh, AllReached, IsStamped, stamp_or, clock_after, HasSeen, IsRead, IsWithin, Server, state_of, files_there, begin_now, with_slot, with_more, Stands, IsCall, append, hand_out, told_synced, count_up, begin_log, begin_segment, told_created, seal, tell_client, checkpoint, stand_on, delete, told_deleted}
 use Rattle.mt_laws.proofs.LeftFiles.{none_at}
 use Rattle.mt_laws.proofs.Doubled.{apart_of, once_of}
 use Rattle.mt_laws.proofs.Paired.{zip_map}
@@ -324,7 +324,7 @@ added : (s : Server) (w : Writer) (head : Head) (mark : ℕ) → Keeps w (begun 
     → IsNew (files_there s) (file_of (begun head mark)) → ((u : Update) → Contains s.acked u → HasSynced (λ r. u.timestamp < r.timestamp) (file_of (begun head mark)))
     → IfSome s.checkpoints.base (λ c. HasSynced (λ r. c.end < r.timestamp) (file_of (begun head mark)))
     → ((x : Slot) → Contains s.slots x → SaysNothing (begin_now s) x head) → Life (state_of s) → Stands s
-    → IsNext (record s { slots = s.slots ++ coming (begun head mark) ∷ [] })
+    → IsNext (with_more s (coming (begun head mark)))
 added s w head mark keeps may new above above_end nothing life stands = (
   subst (λ (l : List (LogOf OpenFile)). Life (running s.acked l s.checkpoints)) (sym logs)
       (then (state_of s) (running s.acked (logs_of s.slots ++ there file ∷ []) s.checkpoints) life (add_file s.acked (logs_of s.slots) s.checkpoints file (record {
@@ -388,7 +388,7 @@ added s w head mark keeps may new above above_end nothing life stands = (
 
 -- a new log
 log_begun : (s : Server) (w : Writer) (mark : ℕ) (head : Head) → Keeps w (begun head mark) → ((u : Update) → Contains s.acked u → u.timestamp < mark)
-    → IfSome s.checkpoints.base (λ base. base.end < mark) → head.from ≤ begin_now s → IsFresh (files_there s) head → Life (state_of s) → Stands s → IsNext (record s { slots = s.slots ++ coming (begun head mark) ∷ [] })
+    → IfSome s.checkpoints.base (λ base. base.end < mark) → head.from ≤ begin_now s → IsFresh (files_there s) head → Life (state_of s) → Stands s → IsNext (with_more s (coming (begun head mark)))
 log_begun s w mark head keeps above above_end from fresh life stands =
     added s w head mark keeps (fresh_added (begin_now s) (files_there s) (file_of (begun head mark)) (opens w (begun head mark) keeps) fresh from)
     (record { last = after; reach = λ time f at behind has. absurd (before f at behind) })
@@ -416,7 +416,7 @@ log_begun s w mark head keeps above above_end from fresh life stands =
 -- the next segment of a sealed one
 segment_begun : (s : Server) (w : Writer) (j : Journal) (last worker number : ℕ) → Contains s.slots (sealed j) → IsSealed last worker number j → IsNewest (files_there s) (file_of j)
     → Keeps w (begun (segment_head last worker (number + 1)) last) → Life (state_of s) → Stands s
-    → IsNext (record s { slots = s.slots ++ coming (begun (segment_head last worker (number + 1)) last) ∷ [] })
+    → IsNext (with_more s (coming (begun (segment_head last worker (number + 1)) last)))
 segment_begun s w j last worker number at is newest keeps life stands =
     added s w head last keeps may (record { last = after; reach = reach })
     (λ u at_u. too u.timestamp (stands.acked u at_u).1)
@@ -752,7 +752,7 @@ none_open = record {
 }
 
 pub new_life : (w : Writer) (new : NewFile) (head : Head) → Keeps w (begun head new.mark) → head.from ≡ 0
-    → let s : Server = record { clock = new.mark; acked = []; slots = writing (begun head new.mark) ∷ []; checkpoints = only None } in Life (state_of s) × Stands s
+    → let s : Server = record { clock = new.mark; acked = []; slots = writing (begun head new.mark) ∷ []; places = 0 ∷ []; checkpoints = only None } in Life (state_of s) × Stands s
 new_life w new head keeps from = (
   life,
   stands_with s life (record {
@@ -768,7 +768,7 @@ new_life w new head keeps from = (
     file = file_of (begun head new.mark)
 
     s : Server
-    s = record { clock = new.mark; acked = []; slots = writing (begun head new.mark) ∷ []; checkpoints = only None }
+    s = record { clock = new.mark; acked = []; slots = writing (begun head new.mark) ∷ []; places = 0 ∷ []; checkpoints = only None }
 
     life : Life (state_of s)
     life = begun_life file [] (opens_with 0 [] file none_open (fresh_added 0 [] file (opens w (begun head new.mark) keeps) (λ other at one. no_element other at) (omega (arith, from))))

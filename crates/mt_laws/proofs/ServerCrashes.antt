@@ -117,7 +117,7 @@ life_stopped acked logs left parts now now_parts (more first first_parts next ne
     (then (down acked logs left parts) (down acked logs next next_parts) life (stop acked logs left parts next next_parts facts way))
 
 -- what is known of the parts does not depend on how it was found
-known_is : (left parts : List (List ℕ)) (facts : Facts left parts) (known : List KnownPart) → AreKnown parts known → facts.known ≡ known
+pub known_is : (left parts : List (List ℕ)) (facts : Facts left parts) (known : List KnownPart) → AreKnown parts known → facts.known ≡ known
 known_is left parts facts known are =
     let choice = some_choice known facts.cutoff in
     (same_facts left parts facts (record facts { known = known; are_known = are; chosen = choice.0; is_chosen = choice.1 })).2
@@ -138,11 +138,11 @@ may_be known cutoff (Some chosen) c is at = elim (head_or_tail chosen c [] at) a
   | inr later ↦ absurd (no_element c later)
 ]
 
-restarts : (s : Server) (names : List (LogOf OpenFile)) (left parts now now_parts : List (List ℕ)) (facts : Facts now now_parts) (slots : List Slot) (clock : ℕ)
+restarts : (s : Server) (names : List (LogOf OpenFile)) (left parts now now_parts : List (List ℕ)) (facts : Facts now now_parts) (slots : List Slot) (clock : ℕ) (places : List ℕ)
     → Life (state_of s) → Stands s → IsCrashOf s names left parts → AreStops left parts now now_parts → AreResumed facts.cutoff names now slots → facts.cutoff ≤ suc clock
     → Life (running s.acked (logs_of slots) (only facts.chosen))
-    × Stands (record { clock = clock; acked = s.acked; slots = slots; checkpoints = only facts.chosen })
-restarts s names left parts now now_parts facts slots clock life stands crash stops resumed next = (
+    × Stands (record { clock = clock; acked = s.acked; slots = slots; places = places; checkpoints = only facts.chosen })
+restarts s names left parts now now_parts facts slots clock places life stands crash stops resumed next = (
   life_now,
   record {
     opens = is.opens;
@@ -215,11 +215,11 @@ left_stands : (begin cutoff : ℕ) (files : List OpenFile) (name : LogOf OpenFil
 left_stands begin cutoff files (there file) = tt
 left_stands begin cutoff files (deleted rs) = tt
 
-starts_afresh : (s : Server) (names : List (LogOf OpenFile)) (left parts now now_parts : List (List ℕ)) (facts : Facts now now_parts) (j : Journal) (new : CheckpointReading) (clock : ℕ)
+starts_afresh : (s : Server) (names : List (LogOf OpenFile)) (left parts now now_parts : List (List ℕ)) (facts : Facts now now_parts) (j : Journal) (new : CheckpointReading) (clock : ℕ) (places : List ℕ)
     → Life (state_of s) → Stands s → IsCrashOf s names left parts → AreStops left parts now now_parts → IsFreshStart facts (file_of j) new → IsWithin new → facts.cutoff ≤ clock
-    → let after : Server = record { clock = clock; acked = s.acked; slots = map (left_slot facts.cutoff) names ++ writing j ∷ []; checkpoints = only (Some new) } in
+    → let after : Server = record { clock = clock; acked = s.acked; slots = map (left_slot facts.cutoff) names ++ writing j ∷ []; places = places; checkpoints = only (Some new) } in
     Life (state_of after) × Stands after
-starts_afresh s names left parts now now_parts facts j new clock life stands crash stops start within next = (
+starts_afresh s names left parts now now_parts facts j new clock places life stands crash stops start within next = (
   life_now,
   stands_with after life_now (record {
     each = λ x at. elim (Contains-push_cases (map (left_slot facts.cutoff) names) (writing j) x at) as (λ _. SlotStands new.begin (files_of after.slots) x) [
@@ -241,7 +241,7 @@ starts_afresh s names left parts now now_parts facts j new clock life stands cra
 )
   where
     after : Server
-    after = record { clock = clock; acked = s.acked; slots = map (left_slot facts.cutoff) names ++ writing j ∷ []; checkpoints = only (Some new) }
+    after = record { clock = clock; acked = s.acked; slots = map (left_slot facts.cutoff) names ++ writing j ∷ []; places = places; checkpoints = only (Some new) }
 
     before : Life (down s.acked (map as_written names) now now_parts)
     before = life_stopped s.acked (map as_written names) left parts now now_parts stops (crashed s names left parts life stands crash)
@@ -257,10 +257,10 @@ starts_afresh s names left parts now now_parts facts j new clock life stands cra
 both : (s : Server) → Called s → Life (state_of s) × Stands s
 both _ (new_server w new head keeps from) = new_life w new head keeps from
 both _ (called before after was call) = let is = both before was in called_next before after is.0 is.1 call
-both _ (restarted s names left parts now now_parts facts slots clock was crash stops resumed next) =
-    let is = both s was in restarts s names left parts now now_parts facts slots clock is.0 is.1 crash stops resumed next
-both _ (started_afresh s names left parts now now_parts facts j new clock was crash stops start within next) =
-    let is = both s was in starts_afresh s names left parts now now_parts facts j new clock is.0 is.1 crash stops start within next
+both _ (restarted s names left parts now now_parts facts slots clock places was crash stops resumed next) =
+    let is = both s was in restarts s names left parts now now_parts facts slots clock places is.0 is.1 crash stops resumed next
+both _ (started_afresh s names left parts now now_parts facts j new clock places was crash stops start within next) =
+    let is = both s was in starts_afresh s names left parts now now_parts facts j new clock places is.0 is.1 crash stops start within next
 
 pub life_of : (s : Server) → Called s → Life (state_of s)
 life_of s is = (both s is).0

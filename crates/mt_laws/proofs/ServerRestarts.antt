@@ -79,8 +79,8 @@ GoesOn s = (after : Server) × Called after × (after.acked ≡ s.acked) × ((j 
 
 pub goes_on : (s : Server) (names : List (LogOf OpenFile)) (left parts : List (List ℕ)) → Called s → IsCrashOf s names left parts → GoesOn s
 goes_on s names left parts so_far crash = (
-  record { clock = facts.cutoff; acked = s.acked; slots = slots; checkpoints = only facts.chosen },
-  restarted s names left parts left parts facts slots facts.cutoff so_far crash (none left parts) resumed (omega arith),
+  record { clock = facts.cutoff; acked = s.acked; slots = slots; places = []; checkpoints = only facts.chosen },
+  restarted s names left parts left parts facts slots facts.cutoff [] so_far crash (none left parts) resumed (omega arith),
   refl,
   λ j at newest. is_slot (sealed j) at newest,
 )

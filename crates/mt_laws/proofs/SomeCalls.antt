@@ -118,11 +118,20 @@ update = update_in 1
 
 -- ---- servers
 
+abbrev places_of : List Slot → List ℕ
+places_of [] = []
+places_of (x ∷ []) = 0 ∷ []
+places_of (x ∷ y ∷ slots) = 0 ∷ 1 ∷ []
+
+-- with two files at the most
 abbrev server : ℕ → List Update → List Slot → Checkpoints → Server
-server clock acked slots checkpoints = record { clock = clock; acked = acked; slots = slots; checkpoints = checkpoints }
+server clock acked slots checkpoints = record { clock = clock; acked = acked; slots = slots; places = places_of slots; checkpoints = checkpoints }
 
 abbrev acked : List Update
 acked = update ∷ []
+
+abbrev slots : List Slot
+slots = sealed old ∷ writing new ∷ []
 
 -- the put is acknowledged
 record IsOld : Type 0 where
@@ -133,8 +142,8 @@ old_server : IsOld
 old_server =
     let a = new_server (created head 0) (begin head 0) head keeps_new refl in
     let b = called (server 0 [] (writing (begun head 0) ∷ []) (only None)) (server 1 [] (writing with_put ∷ []) (only None)) a
-    (append (server 0 [] [] (only None)) [] [] put_writer (begun head 0) put keeps_put (refl, omega arith)) in
-    let c = mark_synced (server 1 [] [] (only None)) [] [] put_writer with_put 2 b keeps_put (omega arith) (omega arith) in
+    (append (server 0 [] (writing (begun head 0) ∷ []) (only None)) [] [] put_writer (begun head 0) put keeps_put (refl, omega arith)) in
+    let c = mark_synced (server 1 [] (writing with_put ∷ []) (only None)) [] [] put_writer with_put 2 b keeps_put (omega arith) (omega arith) in
     let is : IsReached 2 (file_of old) = reached (synced_mark put_writer 2) old c.keeps in
     let now = server 1 [] (writing old ∷ []) (only None) in record {
       so_far = called now (server 1 acked (writing old ∷ []) (only None)) c.so_far
@@ -162,19 +171,16 @@ next_server : IsNext
 next_server =
     let one = server 1 acked (writing old ∷ []) (only None) in
     let shut = server 1 acked (sealed old ∷ []) (only None) in
-    let a = called one shut old_server.so_far (seal (server 1 acked [] (only None)) [] [] old refl) in
+    let a = called one shut old_server.so_far (seal one [] [] old refl) in
     let b = called shut (server 1 acked (sealed old ∷ coming (begun next_head 2) ∷ []) (only None)) a
     (begin_segment shut (created next_head 2) (begin next_head 2) old 2 1 1 (head_in (sealed old) []) is_sealed
     (λ other at behind. not_behind (subst (IsBehind (file_of old)) (sym (only_one (file_of old) other at)) behind)) keeps_next next_begins refl) in
     let c = called (server 1 acked (sealed old ∷ coming (begun next_head 2) ∷ []) (only None)) (server 1 acked (sealed old ∷ writing (begun next_head 2) ∷ []) (only None)) b
-    (told_created (server 1 acked [] (only None)) (sealed old ∷ []) [] (begun next_head 2)) in
-    let d = mark_synced (server 1 acked [] (only None)) (sealed old ∷ []) [] (created next_head 2) (begun next_head 2) 3 c keeps_next (omega arith) (omega arith) in
+    (told_created (server 1 acked slots (only None)) (sealed old ∷ []) [] (begun next_head 2)) in
+    let d = mark_synced (server 1 acked slots (only None)) (sealed old ∷ []) [] (created next_head 2) (begun next_head 2) 3 c keeps_next (omega arith) (omega arith) in
     record { so_far = d.so_far; keeps = d.keeps }
 
 -- ---- the checkpoint
-
-abbrev slots : List Slot
-slots = sealed old ∷ writing new ∷ []
 
 is_read : IsRead acked checkpoint
 is_read = record {
@@ -230,7 +236,7 @@ is_lowest = record {
 
 deleted_server : Called (server 2 acked (gone (records_of old) ∷ writing new ∷ []) stood)
 deleted_server =
-    let s = server 2 acked [] stood in
+    let s = server 2 acked slots stood in
     let a = called (server 2 acked slots stood) (server 2 acked (going old ∷ writing new ∷ []) stood) stood_server
     (delete s [] (writing new ∷ []) old new is_old is_lowest (inl (head_in (writing new) []))) in
     called (server 2 acked (going old ∷ writing new ∷ []) stood) (server 2 acked (gone (records_of old) ∷ writing new ∷ []) stood) a

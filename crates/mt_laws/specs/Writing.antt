@@ -1,5 +1,5 @@
 -- Calls of a server that keeps its logs by writers, and stamps their records by one clock: a stamp is a timestamp and a version at once.
-use Rattle.std.specs.Prelude.{◌≡◌, ℕ, suc, ◌+◌, ◌≤◌, ◌<◌, ◌⊎◌, ◌↔◌, IfSome, Option, Some, None, List, [], ◌∷◌, ◌++◌, map, Contains}
+use Rattle.std.specs.Prelude.{◌≡◌, ℕ, suc, ◌+◌, ◌≤◌, ◌<◌, ◌⊎◌, ◌↔◌, IfSome, Option, Some, None, List, [], ◌∷◌, ◌++◌, length, map, Contains}
 use Rattle.std.specs.List.{AllZip}
 use Rattle.mt_words.specs.declared.record.Change.{Change}
 use Rattle.mt_words.specs.declared.update.Update.{Update}
@@ -127,11 +127,12 @@ pub record IsWithin (checkpoint : CheckpointReading) : Type 0 where
 
 -- ---- a server
 
--- a server: the last stamp, the updates that it acknowledged, its files, and its checkpoints
+-- a server: the last stamp, the updates that it acknowledged, its files, the place of each file that calls name by a number, in the order of the numbers, and its checkpoints
 pub record Server : Type 0 where
   pub clock : ℕ
   pub acked : List Update
   pub slots : List Slot
+  pub places : List ℕ
   pub checkpoints : Checkpoints
 
 -- the state of a life that the server is in
@@ -147,6 +148,10 @@ begin_now s = begin_of s.checkpoints.base
 -- the server with another slot in place of one
 abbrev pub with_slot : Server → List Slot → Slot → List Slot → Server
 with_slot s front slot back = record s { slots = front ++ slot ∷ back }
+
+-- the server with one more file, which has the next number
+abbrev pub with_more : Server → Slot → Server
+with_more s slot = record s { slots = s.slots ++ slot ∷ []; places = s.places ++ length s.slots ∷ [] }
 
 -- The files are open. Those that are written or coming are the newest of their logs. Those that are sealed or going are synced whole. A crash may lose those
 -- that are coming or going, and leaves another. The clock has reached all that was stamped. In each log a record is synced above each acknowledged update, and above
@@ -182,10 +187,10 @@ pub data IsCall : Server → Server → Type 0 where
   count_up : (s : Server) → IsCall s (record s { clock = suc s.clock })
   begin_log : (s : Server) (w : Writer) (new : NewFile) (head : Head) → Keeps w (begun head new.mark) → Begins new head
       → ((u : Update) → Contains s.acked u → u.timestamp < new.mark) → IfSome s.checkpoints.base (λ base. base.end < new.mark)
-      → head.from ≤ begin_now s → IsFresh (files_there s) head → IsCall s (record s { slots = s.slots ++ coming (begun head new.mark) ∷ [] })
+      → head.from ≤ begin_now s → IsFresh (files_there s) head → IsCall s (with_more s (coming (begun head new.mark)))
   begin_segment : (s : Server) (w : Writer) (new : NewFile) (j : Journal) (last worker number : ℕ) → Contains s.slots (sealed j) → IsSealed last worker number j
       → IsNewest (files_there s) (file_of j) → Keeps w (begun (segment_head last worker (number + 1)) last) → Begins new (segment_head last worker (number + 1)) → new.mark ≡ last
-      → IsCall s (record s { slots = s.slots ++ coming (begun (segment_head last worker (number + 1)) last) ∷ [] })
+      → IsCall s (with_more s (coming (begun (segment_head last worker (number + 1)) last)))
   told_created : (s : Server) (front back : List Slot) (j : Journal) → IsCall (with_slot s front (coming j) back) (with_slot s front (writing j) back)
   seal : (s : Server) (front back : List Slot) (j : Journal) → (file_of j).synced ≡ file_bytes (file_of j)
       → IsCall (with_slot s front (writing j) back) (with_slot s front (sealed j) back)
@@ -228,15 +233,15 @@ left_slot cutoff (there file) = gone (below cutoff file.records)
 left_slot cutoff (deleted records) = gone records
 
 -- A server after any calls, crashes and restarts. It began with one new log. After a resume its next stamp is at least the cutoff. After a fresh start it goes on
--- in another folder, with one log and one checkpoint, and its next stamp is above the cutoff.
+-- in another folder, with one log and one checkpoint, and its next stamp is above the cutoff. After either the numbers may name other files.
 pub data Called : Server → Type 0 where
   new_server : (w : Writer) (new : NewFile) (head : Head) → Keeps w (begun head new.mark) → head.from ≡ 0
-      → Called (record { clock = new.mark; acked = []; slots = writing (begun head new.mark) ∷ []; checkpoints = only None })
+      → Called (record { clock = new.mark; acked = []; slots = writing (begun head new.mark) ∷ []; places = 0 ∷ []; checkpoints = only None })
   called : (before after : Server) → Called before → IsCall before after → Called after
-  restarted : (s : Server) (names : List (LogOf OpenFile)) (left parts now now_parts : List (List ℕ)) (facts : Facts now now_parts) (slots : List Slot) (clock : ℕ)
+  restarted : (s : Server) (names : List (LogOf OpenFile)) (left parts now now_parts : List (List ℕ)) (facts : Facts now now_parts) (slots : List Slot) (clock : ℕ) (places : List ℕ)
       → Called s → IsCrashOf s names left parts → AreStops left parts now now_parts → AreResumed facts.cutoff names now slots → facts.cutoff ≤ suc clock
-      → Called (record { clock = clock; acked = s.acked; slots = slots; checkpoints = only facts.chosen })
+      → Called (record { clock = clock; acked = s.acked; slots = slots; places = places; checkpoints = only facts.chosen })
   started_afresh : (s : Server) (names : List (LogOf OpenFile)) (left parts now now_parts : List (List ℕ)) (facts : Facts now now_parts) (j : Journal)
-      (new : CheckpointReading) (clock : ℕ) → Called s → IsCrashOf s names left parts → AreStops left parts now now_parts → IsFreshStart facts (file_of j) new
+      (new : CheckpointReading) (clock : ℕ) (places : List ℕ) → Called s → IsCrashOf s names left parts → AreStops left parts now now_parts → IsFreshStart facts (file_of j) new
       → IsWithin new → facts.cutoff ≤ clock
-      → Called (record { clock = clock; acked = s.acked; slots = map (left_slot facts.cutoff) names ++ writing j ∷ []; checkpoints = only (Some new) })
+      → Called (record { clock = clock; acked = s.acked; slots = map (left_slot facts.cutoff) names ++ writing j ∷ []; places = places; checkpoints = only (Some new) })

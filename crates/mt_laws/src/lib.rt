@@ -34,7 +34,7 @@ pub use part_files::{
 pub use readings::{some_part, some_reading};
 pub use resuming::{
     a_resumed_log_is_a_log, an_update_after_a_resume, deleting_makes_no_checkpoint_valid,
-    resuming_changes_nothing,
+    logs_may_come_in_any_order, resuming_changes_nothing,
 };
 pub use verdicts::some_verdict;
 pub use writing::calls_are_a_life;

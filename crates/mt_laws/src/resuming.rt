@@ -1,5 +1,5 @@
 //! Laws of resuming in place after a crash: of every state on the way, and of what comes after.
-ghost use Rattle.std.specs.Prelude.{◌≡◌, ◌<◌, ◌^◌, if◌then◌else◌, List, Option, ℕ, Contains};
+ghost use Rattle.std.specs.Prelude.{◌≡◌, ◌<◌, ◌^◌, if◌then◌else◌, List, Option, ℕ, Contains, IsPermutation};
 ghost use Rattle.std.specs.List.{AllZip};
 ghost use Rattle.mt_words.specs.declared.update.Update.{Update};
 ghost use Rattle.mt_words.specs.Walks.{Pair};
@@ -36,6 +36,13 @@ pub fn resuming_changes_nothing()
         (store : IsStoreOf logs parts pairs) → IsOnTheWay store.basis.facts now left →
         (found : Facts now left) → AllZip (IsResumed found.cutoff) now after →
         AllZip (IsResumed store.basis.facts.cutoff) logs after }
+{}
+
+/// States that recovery finds the same cutoff and chooses the same checkpoint in whatever order the logs are. This is a
+/// law: it has nothing to run.
+pub fn logs_may_come_in_any_order()
+    ensures { (logs others parts : List (List ℕ)) (facts : Facts logs parts) (after : Facts others parts) → IsPermutation logs others →
+        (after.cutoff ≡ facts.cutoff) × (after.chosen ≡ facts.chosen) }
 {}
 
 /// States that no checkpoint becomes valid while the parts of those that are not chosen are deleted by the rule: where

@@ -32,7 +32,7 @@ mod tests;
 mod writer_fault;
 
 pub use laws::{a_journal_is_an_open_file, a_reach_stays_true};
-pub use log_writer::{LONGEST_RECORD, LogWriter, Sealed};
+pub use log_writer::{LONGEST_RECORD, LogWriter};
 pub use new_log::NewLog;
 pub use reaches::least_reach;
 pub use writer_fault::WriterFault;

@@ -48,13 +48,6 @@ pub struct LogWriter {
     pub(crate) failed: bool,
 }
 
-/// A segment that is synced whole and takes no more records. One segment follows it.
-#[derive(Debug, Drop)]
-pub struct Sealed {
-    last: u64,
-    segment: Segment,
-}
-
 impl Model for LogWriter {
     ghost use Rattle.std.specs.Prelude.{◌≤◌};
     ghost use Rattle.mt_writer.specs.Journals.{Writer};
@@ -225,11 +218,10 @@ impl LogWriter {
         self.failed = true;
     }
 
-    /// Seals this segment, so that the next one may begin. Err: the writer as it was, if its file is no segment or is
-    /// not synced whole, or if a write or a sync failed.
-    pub fn seal(self) -> Result<Sealed, LogWriter>
-        ensures ok { (j : Journal) → Keeps self j → IfOk result (λ sealed. IsSealed sealed.last sealed.segment.worker sealed.segment.number j) }
-        ensures last { IfOk result (λ sealed. sealed.last ≡ self.last) }
+    /// Seals this segment, so that the next one may begin, and returns which segment it is. Err: the writer as it was, if
+    /// its file is no segment or is not synced whole, or if a write or a sync failed.
+    pub fn seal(self) -> Result<Segment, LogWriter>
+        ensures ok { (j : Journal) → Keeps self j → IfOk result (λ segment. IsSealed self.last segment.worker segment.number j) }
         ensures failed { OnOk result (self.failed ≡ false) }
         ensures err { IfErr result (λ same. same ≡ self) }
         ensures refused { OnErr result (MayNotSeal self) }
@@ -240,10 +232,7 @@ impl LogWriter {
         let Some(segment) = self.segment else {
             return Err(self);
         };
-        Ok(Sealed {
-            last: self.last,
-            segment,
-        })
+        Ok(segment)
     }
 
     /// Returns the timestamp of the last record.
@@ -335,22 +324,6 @@ impl LogWriter {
     {
         self.size += (self.buffer.len() - before) as u64;
         self.last = time;
-    }
-}
-
-impl Sealed {
-    /// Returns the last timestamp of the segment.
-    pub fn last(&self) -> u64
-        ensures { result ≡ self.now.last }
-    {
-        self.last
-    }
-
-    /// Returns which segment it is.
-    pub fn segment(&self) -> Segment
-        ensures { result ≡ self.now.segment }
-    {
-        self.segment
     }
 }
 

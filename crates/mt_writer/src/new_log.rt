@@ -1,13 +1,11 @@
 //! Begins the files of logs.
-ghost use Rattle.std.specs.Prelude.{◌≡◌, ◌⊎◌, ◌≤◌, ◌+◌, ◌^◌, false, max, IfOk, IfErr};
+ghost use Rattle.std.specs.Prelude.{◌≡◌, false, max, IfOk};
 ghost use Rattle.mt_words.specs.declared.limits.Format.TheVariants.{Two};
 ghost use Rattle.mt_record.specs.declared.feed.head.Head.{Head as HeadValue};
 ghost use Rattle.mt_record.specs.Encoding.{head_of, segment_head};
 ghost use Rattle.mt_writer.specs.Journals.{Begins, Keeps, begun};
-ghost use Rattle.mt_writer.specs.declared.writer_fault.WriterFault.TheVariants as faults;
 
-use crate::log_writer::{LogWriter, Sealed};
-use crate::writer_fault::WriterFault;
+use crate::log_writer::LogWriter;
 use mt_record::{Segment, encode_log_header_2, encode_log_header_3, encode_record};
 use mt_words::{Memory, Record};
 use std::alloc::Global;
@@ -70,25 +68,6 @@ impl NewLog {
             mark,
             segment,
         })
-    }
-
-    /// Begins the segment after this one, with a mark at its last timestamp. So it reaches no further than the sealed one,
-    /// and a crash may lose its name. Err: the sealed one, and `Full` if no number is left, or `Memory`.
-    pub fn next(alloc: Global, sealed: Sealed) -> Result<NewLog, (WriterFault, Sealed)>
-        ensures begins { IfOk result (λ new. Begins new (segment_head sealed.last sealed.segment.worker (sealed.segment.number + 1))) }
-        ensures mark { IfOk result (λ new. new.mark ≡ sealed.last) }
-        ensures fault { IfErr result (λ err. (err.0 ≡ faults.Memory) ⊎ (err.0 ≡ faults.Full) × (sealed.segment.number + 1 ≡ 2 ^ 32)) }
-        ensures err { IfErr result (λ err. err.1 ≡ sealed) }
-    {
-        let last = sealed.last();
-        let Segment { worker, number } = sealed.segment();
-        let Some(number) = number.checked_add(1) else {
-            return Err((WriterFault::Full, sealed));
-        };
-        match NewLog::segment(alloc, last, worker, number, last) {
-            Ok(new) => Ok(new),
-            Err(memory) => Err((WriterFault::from(memory), sealed)),
-        }
     }
 
     /// Returns the bytes of the file. They are written under another name and synced, the file is renamed, and the

@@ -1,4 +1,4 @@
-use Rattle.std.proofs.Common.{ap, refl, sym, ◌∙◌, arith}
+use Rattle.std.proofs.Common.{ap, refl, sym, ◌∙◌}
 use Rattle.mt_writer.specs.Journals.{Writer}
 use Rattle.mt_writer.proofs.JournalLemmas.{none_taken}
 use Rattle.mt_writer.proofs.log_writer.LogWriter.take.Goals as goal
