@@ -1,6 +1,7 @@
 -- A segment is followed by the next one.
-use Rattle.std.proofs.Common.{◌≡◌, ◌⊎◌, inl, inr, ℕ, zero, suc, ◌+◌, ◌≤◌, ◌<◌, true, false, Bool, Option, Some, IfSome, List, [], ◌∷◌, ◌++◌, length, map, slice_set, Contains, refl, sym, ap, ◌∙◌, subst, append_assoc, arith}
+use Rattle.std.proofs.Common.{◌≡◌, ◌⊎◌, inl, inr, ℕ, zero, suc, ◌+◌, ◌≤◌, ◌<◌, true, false, Option, Some, IfSome, List, [], ◌∷◌, ◌++◌, length, map, slice_set, Contains, refl, sym, ap, ◌∙◌, subst, append_assoc, arith}
 use Rattle.std.specs.Prelude.{slice_get}
+use Rattle.std.specs.List.{AllZip}
 use Rattle.std.proofs.lemmas.Bool.{false≢true}
 use Rattle.std.proofs.lemmas.Option.{none-some, same_Some}
 use Rattle.std.proofs.lemmas.List.{append-nil}
@@ -17,17 +18,17 @@ use Rattle.mt_writer.specs.Files.{OpenFile}
 use Rattle.mt_writer.specs.Journals.{Journal, Writer, NewFile, Keeps, records_of, file_of, begun, IsSealed}
 use Rattle.mt_writer.specs.Refusing.{MayNotSeal}
 use Rattle.mt_writer.proofs.JournalLemmas.{begun_keeps}
-use Rattle.mt_laws.specs.Lives.{LogOf, those_there}
-use Rattle.mt_laws.specs.Writing.{Slot, coming, writing, sealed, logs_of, files_of, files_there, IsNewest, Server, with_slot, Stands, IsCall, seal, begin_segment}
+use Rattle.mt_laws.specs.Lives.{those_there}
+use Rattle.mt_laws.specs.Writing.{Slot, coming, writing, sealed, files_of, files_there, IsNewest, Server, with_slot, Stands, IsCall, seal, begin_segment}
 use Rattle.mt_laws.proofs.Slots.{amid, was_in, same_logs}
 use Rattle.mt_keeper.specs.declared.keeper.Stage.{Stage}
-use Rattle.mt_keeper.specs.declared.keeper.Stage.TheVariants.{Coming, Writing, Followed}
+use Rattle.mt_keeper.specs.declared.keeper.Stage.TheVariants.{Followed}
 use Rattle.mt_keeper.specs.declared.keeper.Log.{Log}
-use Rattle.mt_keeper.specs.Keeping.{Keeping, Holds, IsInStage, IsLogOf, IsFollowedBy, segment_in, from_in, latest_in, is_newest, Place, place_of, AreInPlace}
-use Rattle.mt_keeper.specs.Calling.{with_changed, with_sealed, if_sealing, StepsToNext}
+use Rattle.mt_keeper.specs.Keeping.{Keeping, Holds, IsInStage, IsLogOf, IsFollowedBy, slot_in, segment_in, from_in, latest_in, is_newest, Place, place_of, AreInPlace}
+use Rattle.mt_keeper.specs.Calling.{with_changed, place_at, with_sealed, if_sealing, StepsToNext}
 use Rattle.mt_keeper.specs.declared.keeper_fault.KeeperFault.{KeeperFault}
 use Rattle.mt_keeper.specs.Refusals.{HasNoNext, IsUnsealable, IsNotWhole}
-use Rattle.mt_keeper.proofs.OneChanged.{SlotOf, slot_of, all_kept}
+use Rattle.mt_keeper.proofs.OneChanged.{SlotOf, slot_of, all_kept, numbers_more, numbered_more}
 use Rattle.mt_keeper.proofs.Writes.{written_slot}
 
 -- ---- logs, one of which is changed
@@ -150,14 +151,16 @@ followed_by keeper s number log after next stands holds at by = record {
       clock = holds.clock;
       acked = holds.acked;
       base = holds.base;
-      logs = all_zipped_more (IsLogOf keeper.clock) (slice_set keeper.logs number after) (with_changed s.slots number if_sealing) next (coming (begun head last))
-          (all_kept (IsLogOf keeper.clock) (IsLogOf keeper.clock) keeper.logs s.slots number log after if_sealing holds.logs at (λ l x is. is) kept)
+      numbers = numbers_more slots s.places (coming (begun head last)) (of.numbers if_sealing);
+      logs = subst (AllZip (IsLogOf keeper.clock) (slice_set keeper.logs number after ++ next ∷ [])) (sym (numbered_more slots s.places (coming (begun head last)) (of.numbers if_sealing).within))
+          (all_zipped_more (IsLogOf keeper.clock) (slice_set keeper.logs number after) (map (slot_in slots) s.places) next (coming (begun head last))
+          (all_kept keeper.clock keeper.clock keeper.logs s number log after if_sealing holds.numbers holds.logs at (λ l x is. is) kept)
           (subst (λ (x : Log). IsLogOf keeper.clock x (coming (begun head last))) (sym by.next_is) (record {
             stage = (head, by.begins, refl);
             segment = refl;
             from = refl;
             latest = low;
-          }));
+          })));
       places = subst (λ (logs : List Log). AreInPlace keeper.workers (map place_of (logs ++ next ∷ []))) (sym (logs.changed after))
           (followed_in_place keeper.workers logs.front logs.back log after next by.segment (subst (λ (ls : List Log). AreInPlace keeper.workers (map place_of ls)) logs.split holds.places)
           (ap (λ (stage : Stage). (is_newest stage, log.segment)) by.written ∙ ap (λ (segment : Option Segment). (true, segment)) by.was)
@@ -168,8 +171,11 @@ followed_by keeper s number log after next stands holds at by = record {
   );
 }
   where
-    of : SlotOf (IsLogOf keeper.clock) s.slots number log
-    of = slot_of (IsLogOf keeper.clock) keeper.logs s.slots number log holds.logs at
+    of : SlotOf (IsLogOf keeper.clock) s number log
+    of = slot_of (IsLogOf keeper.clock) keeper.logs s number log holds.numbers holds.logs at
+
+    slots : List Slot
+    slots = with_changed s.slots (place_at s number) if_sealing
 
     here : (j : Journal) × (of.slot ≡ writing j) × Keeps by.writer j × (by.writer.failed ≡ false)
     here = written_slot by.writer of.slot (subst (λ (stage : Stage). IsInStage stage of.slot) by.written of.keeps.stage)
@@ -197,10 +203,10 @@ followed_by keeper s number log after next stands holds at by = record {
     before : s.slots ≡ of.front ++ writing j ∷ of.back
     before = of.split ∙ ap (λ (x : Slot). of.front ++ x ∷ of.back) here.1
 
-    now : with_changed s.slots number if_sealing ≡ of.front ++ sealed j ∷ of.back
+    now : slots ≡ of.front ++ sealed j ∷ of.back
     now = of.changed if_sealing ∙ ap (λ (x : Slot). of.front ++ if_sealing x ∷ of.back) here.1
 
-    files : files_of (with_changed s.slots number if_sealing) ≡ files_there s
+    files : files_of slots ≡ files_there s
     files = ap files_of now ∙ ap those_there (same_logs of.front of.back (writing j) (sealed j) refl) ∙ sym (ap files_of before)
 
     newest : IsNewest (files_there (with_sealed s number)) (file_of j)
@@ -236,7 +242,7 @@ pub not_followed : (inside keeper : Keeping) (s : Server) (number : ℕ) (log : 
 not_followed inside keeper s number log fault is at holds (inl why) =
     inl (subst (λ (o : Option Log). HasNoNext o fault) (sym (ap (λ (k : Keeping). slice_get k.logs number) (sym is) ∙ at)) why)
 not_followed inside keeper s number log fault is at holds (inr why) =
-    let of = slot_of (IsLogOf keeper.clock) keeper.logs s.slots number log holds.logs (ap (λ (k : Keeping). slice_get k.logs number) (sym is) ∙ at) in
+    let of = slot_of (IsLogOf keeper.clock) keeper.logs s number log holds.numbers holds.logs (ap (λ (k : Keeping). slice_get k.logs number) (sym is) ∙ at) in
     let here = written_slot why.1 of.slot (subst (λ (stage : Stage). IsInStage stage of.slot) why.3.0 of.keeps.stage) in
     let segment : here.0.head.segment ≡ Some why.2 = sym (ap segment_in here.1) ∙ sym of.keeps.segment ∙ why.3.1 in
     inr (why.0, here.0, of.at ∙ ap (λ (x : Slot). Some x) here.1, λ none. not_whole why.1 here.0 why.2 here.2 here.3 segment why.4 none)

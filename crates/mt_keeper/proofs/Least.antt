@@ -1,7 +1,7 @@
 -- The least of the reaches of logs.
-use Rattle.std.proofs.Common.{◌≡◌, ◌⊎◌, inl, inr, ℕ, zero, suc, ◌+◌, ◌<◌, ◌≤◌, List, [], ◌∷◌, length, Option, None, Some, IfSome, Contains, refl, sym, ap, ◌∙◌, subst, arith}
+use Rattle.std.proofs.Common.{◌≡◌, inl, inr, ℕ, zero, suc, ◌+◌, ◌<◌, ◌≤◌, List, [], ◌∷◌, length, Some, IfSome, Contains, sym, ap, ◌∙◌, subst, arith}
 use Rattle.std.specs.Prelude.{slice_get}
-use Rattle.std.proofs.lemmas.Option.{none-some, same_Some, IfSome_then}
+use Rattle.std.proofs.lemmas.Option.{same_Some, IfSome_then}
 use Rattle.std.proofs.lemmas.Bool.{cases_lt}
 use Rattle.mt_words.proofs.Elements.{no_element, head_or_tail}
 use Rattle.mt_keeper.specs.declared.keeper.Log.{Log}

@@ -1,26 +1,26 @@
 -- Segments that are deleted.
-use Rattle.std.proofs.Common.{◌≡◌, ◌⊎◌, inl, inr, ℕ, ◌+◌, ◌≤◌, ◌<◌, Bool, true, false, Option, None, Some, IfSome, List, [], ◌∷◌, ◌++◌, map, slice_set, Contains, refl, sym, ap, ◌∙◌, subst, arith}
+use Rattle.std.proofs.Common.{◌≡◌, ◌⊎◌, inl, inr, ℕ, ◌<◌, true, false, Option, None, Some, IfSome, List, ◌∷◌, ◌++◌, map, slice_set, Contains, refl, sym, ap, ◌∙◌, subst, arith}
 use Rattle.std.specs.Prelude.{slice_get}
-use Rattle.std.proofs.lemmas.Bool.{false≢true, true≢false}
+use Rattle.std.proofs.lemmas.Bool.{false≢true}
 use Rattle.std.proofs.lemmas.Option.{none-some, same_Some}
 use Rattle.std.proofs.lemmas.List.Elements.{Contains-append_left, Contains-append_right, Contains-append_cases, All-contains}
-use Rattle.mt_words.specs.Changes.{Logged, is_mark}
+use Rattle.mt_words.specs.Changes.{Logged}
 use Rattle.mt_words.proofs.Elements.{head_or_tail, tail_in}
 use Rattle.mt_record.specs.declared.feed.head.Segment.{Segment}
 use Rattle.mt_scan.specs.Segments.{IsEarlier, IsJustBefore}
 use Rattle.mt_replay.proofs.Members.{of_map, in_map}
 use Rattle.mt_writer.specs.Files.{OpenFile}
 use Rattle.mt_writer.specs.Journals.{Journal, Writer, NewFile, records_of, file_of}
-use Rattle.mt_laws.specs.Lives.{there, IsBehind, AreOld}
+use Rattle.mt_laws.specs.Lives.{there, AreOld}
 use Rattle.mt_laws.specs.Names.{IsLowest}
 use Rattle.mt_laws.specs.Writing.{Slot, coming, writing, sealed, going, gone, log_of, files_there, begin_now, Server, with_slot, IsCall, delete, told_deleted}
 use Rattle.mt_laws.proofs.Slots.{of_files, amid, was_in}
 use Rattle.mt_keeper.specs.declared.keeper.Stage.{Stage}
 use Rattle.mt_keeper.specs.declared.keeper.Stage.TheVariants.{Coming, Writing, Followed, Going, Gone}
 use Rattle.mt_keeper.specs.declared.keeper.Log.{Log}
-use Rattle.mt_keeper.specs.Keeping.{Keeping, Holds, IsInStage, IsWhole, IsLogOf, segment_in, from_in, is_newest, Place, place_of, AreInPlace, LetsGo, MayGo}
-use Rattle.mt_keeper.specs.Calling.{Steps, with_changed, with_going, with_gone, if_sealed, if_going}
-use Rattle.mt_keeper.proofs.OneChanged.{SlotOf, slot_of, all_kept, same_of_all}
+use Rattle.mt_keeper.specs.Keeping.{Keeping, Holds, numbered, IsInStage, IsWhole, IsLogOf, segment_in, from_in, is_newest, Place, place_of, AreInPlace, LetsGo, MayGo}
+use Rattle.mt_keeper.specs.Calling.{Steps, with_changed, place_at, with_going, with_gone, if_sealed, if_going}
+use Rattle.mt_keeper.proofs.OneChanged.{SlotOf, slot_of, all_kept, same_of_all, in_numbered, of_numbered}
 use Rattle.mt_keeper.proofs.Writes.{written_slot}
 use Rattle.mt_keeper.proofs.Following.{Around, around}
 use Rattle.mt_keeper.proofs.Reaching.{log_at, slot_at, segment_there}
@@ -75,15 +75,16 @@ goes keeper s number holds may = (
     clock = holds.clock;
     acked = holds.acked;
     base = holds.base;
-    logs = all_kept (IsLogOf keeper.clock) (IsLogOf keeper.clock) keeper.logs s.slots number may.log (record may.log { stage = Going }) if_sealed holds.logs may.stands (λ l x is. is) kept;
+    numbers = of.numbers if_sealed;
+    logs = all_kept keeper.clock keeper.clock keeper.logs s number may.log (record may.log { stage = Going }) if_sealed holds.numbers holds.logs may.stands (λ l x is. is) kept;
     places = subst (AreInPlace keeper.workers)
         (sym (same_of_all place_of keeper.logs number may.log (record may.log { stage = Going }) may.stands (ap (λ (stage : Stage). (is_newest stage, may.log.segment)) (sym may.stage)))) holds.places;
     checkpoints = holds.checkpoints;
   },
 )
   where
-    of : SlotOf (IsLogOf keeper.clock) s.slots number may.log
-    of = slot_of (IsLogOf keeper.clock) keeper.logs s.slots number may.log holds.logs may.stands
+    of : SlotOf (IsLogOf keeper.clock) s number may.log
+    of = slot_of (IsLogOf keeper.clock) keeper.logs s number may.log holds.numbers holds.logs may.stands
 
     here : (j : Journal) × (of.slot ≡ sealed j) × IsWhole may.last j
     here = sealed_slot may.last of.slot (subst (λ (stage : Stage). IsInStage stage of.slot) may.stage of.keeps.stage)
@@ -97,7 +98,7 @@ goes keeper s number holds may = (
     before : s.slots ≡ of.front ++ sealed j ∷ of.back
     before = of.split ∙ ap (λ (x : Slot). of.front ++ x ∷ of.back) here.1
 
-    now : with_changed s.slots number if_sealed ≡ of.front ++ going j ∷ of.back
+    now : with_changed s.slots (place_at s number) if_sealed ≡ of.front ++ going j ∷ of.back
     now = of.changed if_sealed ∙ ap (λ (x : Slot). of.front ++ if_sealed x ∷ of.back) here.1
 
     old : AreOld (begin_now s) (records_of j)
@@ -109,7 +110,7 @@ goes keeper s number holds may = (
     let_go : (file : OpenFile) → Contains (files_there s) file → (l : Log) × (l.segment ≡ file.head.segment) × (l.from ≡ file.head.from) × LetsGo keeper.base may.segment l
     let_go file at =
         let x = of_files s.slots file at in
-        let l = log_at (IsLogOf keeper.clock) keeper.logs s.slots x.0 holds.logs x.1 in
+        let l = log_at (IsLogOf keeper.clock) keeper.logs (numbered s) x.0 holds.logs (in_numbered s x.0 file holds.numbers x.1 x.2) in
         (l.0, l.2.segment ∙ segment_there x.0 file x.2, l.2.from ∙ from_there x.0 file x.2, All-contains (LetsGo keeper.base may.segment) keeper.logs l.0 may.lowest l.1)
 
     lowest : IsLowest (begin_now s) (files_there (with_slot s of.front (sealed j) of.back)) (file_of j)
@@ -132,13 +133,13 @@ goes keeper s number holds may = (
         (in_map place_of keeper.logs may.log stands) in
         let later = holds.places.followed may.segment place in
         let m = of_map place_of keeper.logs (true, later.0) later.1 in
-        let y = slot_at (IsLogOf keeper.clock) keeper.logs s.slots m.0 holds.logs m.1 in
+        let y = slot_at (IsLogOf keeper.clock) keeper.logs (numbered s) m.0 holds.logs m.1 in
         let lets = All-contains (LetsGo keeper.base may.segment) keeper.logs m.0 may.lowest m.1 in
         elim (newest_stage m.0.stage (ap (λ (p : Place). p.0) m.2)) as (λ _. (other : Journal) × Contains (of.front ++ of.back) (writing other)) [
           | inl new ↦ absurd (lets.created new.0 (subst (IsEarlier (Some may.segment)) (sym (ap (λ (p : Place). p.1) m.2)) later.2) new.1)
           | inr w ↦
               let is = written_slot w.0 y.0 (subst (λ (stage : Stage). IsInStage stage y.0) w.1 y.2.stage) in
-              (is.0, beside of.front of.back (sealed j) (writing is.0) (subst (λ (slots : List Slot). Contains slots (writing is.0)) before (subst (Contains s.slots) is.1 y.1)) (λ same. absurd cc))
+              (is.0, beside of.front of.back (sealed j) (writing is.0) (subst (λ (slots : List Slot). Contains slots (writing is.0)) before (subst (Contains s.slots) is.1 (of_numbered s y.0 holds.numbers y.1))) (λ same. absurd cc))
         ]
 
     kept : (x : Slot) → IsLogOf keeper.clock may.log x → IsLogOf keeper.clock (record may.log { stage = Going }) (if_sealed x)
@@ -207,15 +208,16 @@ went keeper s number log holds at going_is = (
     clock = holds.clock;
     acked = holds.acked;
     base = holds.base;
-    logs = all_kept (IsLogOf keeper.clock) (IsLogOf keeper.clock) keeper.logs s.slots number log gone_log if_going holds.logs at (λ l x is. is) kept;
+    numbers = of.numbers if_going;
+    logs = all_kept keeper.clock keeper.clock keeper.logs s number log gone_log if_going holds.numbers holds.logs at (λ l x is. is) kept;
     places = subst (λ (ls : List Log). AreInPlace keeper.workers (map place_of ls)) (sym (logs.changed gone_log))
         (gone_in_place keeper.workers logs.front logs.back log (subst (λ (ls : List Log). AreInPlace keeper.workers (map place_of ls)) logs.split holds.places) (ap is_newest going_is));
     checkpoints = holds.checkpoints;
   },
 )
   where
-    of : SlotOf (IsLogOf keeper.clock) s.slots number log
-    of = slot_of (IsLogOf keeper.clock) keeper.logs s.slots number log holds.logs at
+    of : SlotOf (IsLogOf keeper.clock) s number log
+    of = slot_of (IsLogOf keeper.clock) keeper.logs s number log holds.numbers holds.logs at
 
     logs : Around keeper.logs number log
     logs = around keeper.logs number log at
@@ -226,7 +228,7 @@ went keeper s number log holds at going_is = (
     before : s.slots ≡ of.front ++ going here.0 ∷ of.back
     before = of.split ∙ ap (λ (x : Slot). of.front ++ x ∷ of.back) here.1
 
-    now : with_changed s.slots number if_going ≡ of.front ++ gone (records_of here.0) ∷ of.back
+    now : with_changed s.slots (place_at s number) if_going ≡ of.front ++ gone (records_of here.0) ∷ of.back
     now = of.changed if_going ∙ ap (λ (x : Slot). of.front ++ if_going x ∷ of.back) here.1
 
     kept : (x : Slot) → IsLogOf keeper.clock log x → IsLogOf keeper.clock gone_log (if_going x)

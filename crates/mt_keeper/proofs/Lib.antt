@@ -7,3 +7,5 @@ pub mod Least
 pub mod Making
 pub mod Leaving
 pub mod NewLogs
+pub mod Staging
+pub mod Restarts

@@ -3,12 +3,11 @@ use Rattle.std.proofs.Common.{◌≡◌, ℕ, suc, ◌+◌, ◌≤◌, ◌<◌, 
 use Rattle.std.proofs.lemmas.Option.{none-some, same_Some, IfSome_then}
 use Rattle.mt_scan.specs.Choice.{CheckpointReading}
 use Rattle.mt_recover.specs.Recovery.{begin_of}
-use Rattle.mt_laws.specs.Lives.{Checkpoints}
 use Rattle.std.proofs.lemmas.List.Elements.{All-contains}
-use Rattle.mt_laws.specs.Writing.{updates_of, files_there, IsRead, IsWithin, Server, Stands, IsCall, count_up, checkpoint, stand_on}
+use Rattle.mt_laws.specs.Writing.{updates_of, IsRead, IsWithin, Server, Stands, count_up, checkpoint, stand_on}
 use Rattle.mt_keeper.specs.declared.keeper.Log.{Log}
 use Rattle.mt_keeper.specs.declared.keeper.Making.{Making}
-use Rattle.mt_keeper.specs.Keeping.{Keeping, Holds, AreKept, IsReading, HasRead, IsLogOf, ArePast, reach_in}
+use Rattle.mt_keeper.specs.Keeping.{Keeping, Holds, numbered, IsReading, HasRead, IsLogOf, ArePast, reach_in}
 use Rattle.mt_keeper.specs.Calling.{Steps, counted_up, with_checkpoint, standing_on}
 use Rattle.mt_keeper.proofs.OneChanged.{all_still}
 use Rattle.mt_keeper.proofs.Writes.{log_later, base_later}
@@ -34,7 +33,8 @@ counted keeper s stamp next stands holds is = (
     clock = omega (arith, holds.clock, is);
     acked = λ u at. let low = holds.acked u at in omega (arith, low, is);
     base = base_later keeper.clock stamp s.checkpoints.base (omega (arith, is)) holds.base;
-    logs = all_still (IsLogOf keeper.clock) (IsLogOf stamp) keeper.logs s.slots holds.logs (log_later keeper.clock stamp (omega (arith, is)));
+    numbers = holds.numbers;
+    logs = all_still (IsLogOf keeper.clock) (IsLogOf stamp) keeper.logs (numbered s) holds.logs (log_later keeper.clock stamp (omega (arith, is)));
     places = holds.places;
     checkpoints = record {
       of_base = holds.checkpoints.of_base;
@@ -62,6 +62,7 @@ ended keeper s new holds reading end is_read =
         clock = holds.clock;
         acked = holds.acked;
         base = holds.base;
+        numbers = holds.numbers;
         logs = holds.logs;
         places = holds.places;
         checkpoints = record { of_base = holds.checkpoints.of_base; begun = is; later = λ begin c is at. absurd (not_reading new.begin begin keeper.clock is) };
@@ -82,6 +83,7 @@ given_up keeper s holds = record {
   clock = holds.clock;
   acked = holds.acked;
   base = holds.base;
+  numbers = holds.numbers;
   logs = holds.logs;
   places = holds.places;
   checkpoints = record { of_base = holds.checkpoints.of_base; begun = tt; later = λ begin c is at. absurd (none-some _ is) };
@@ -99,6 +101,7 @@ stood keeper s new stands holds read at past =
         clock = holds.clock;
         acked = holds.acked;
         base = let below = (stands.written new at).1 in omega (arith, below, holds.clock);
+        numbers = holds.numbers;
         logs = holds.logs;
         places = holds.places;
         checkpoints = record { of_base = refl; begun = tt; later = λ begin c is at. absurd (none-some _ is) };

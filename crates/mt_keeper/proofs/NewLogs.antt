@@ -1,33 +1,32 @@
 -- New logs.
-use Rattle.std.proofs.Common.{◌≡◌, ◌⊎◌, inl, inr, ℕ, suc, ◌+◌, ◌<◌, ◌≤◌, true, false, Bool, Option, None, Some, IfSome, List, [], ◌∷◌, ◌++◌, length, map, slice_set, Contains, refl, sym, ap, ◌∙◌, subst, arith}
+use Rattle.std.proofs.Common.{◌≡◌, inl, inr, ℕ, suc, ◌+◌, ◌<◌, ◌≤◌, true, false, Option, None, Some, IfSome, List, [], ◌∷◌, ◌++◌, length, map, slice_set, Contains, refl, sym, ap, ◌∙◌, subst, arith}
 use Rattle.std.specs.Prelude.{slice_get}
 use Rattle.std.specs.List.{AllZip}
 use Rattle.std.proofs.lemmas.Bool.{false≢true}
 use Rattle.std.proofs.lemmas.List.Elements.{Contains-append_left, Contains-push_cases}
 use Rattle.std.proofs.lemmas.Slice.Zip.{all_zipped_more}
 use Rattle.mt_words.specs.declared.update.Update.{Update}
-use Rattle.mt_words.proofs.Elements.{no_element, head_or_tail}
+use Rattle.mt_words.proofs.Elements.{no_element, head_or_tail, head_in}
 use Rattle.mt_record.specs.declared.feed.head.Segment.{Segment}
 use Rattle.mt_record.specs.declared.feed.head.Head.{Head}
 use Rattle.mt_record.specs.Encoding.{segment_head}
 use Rattle.mt_scan.specs.Segments.{IsEarlier}
 use Rattle.mt_scan.specs.Choice.{CheckpointReading}
 use Rattle.mt_replay.proofs.Members.{of_map, in_map}
-use Rattle.mt_writer.specs.Files.{OpenFile}
-use Rattle.mt_writer.specs.Journals.{Journal, Writer, NewFile, Keeps, Begins, begun}
+use Rattle.mt_writer.specs.Journals.{Writer, NewFile, Keeps, Begins, begun}
 use Rattle.mt_writer.proofs.JournalLemmas.{begun_keeps}
 use Rattle.mt_laws.specs.Lives.{only}
-use Rattle.mt_laws.specs.Writing.{Slot, coming, writing, IsOneWorkers, IsFresh, files_there, Server, with_slot, IsCall, begin_log, told_created, Called, new_server}
+use Rattle.mt_laws.specs.Writing.{Slot, coming, writing, IsOneWorkers, IsFresh, files_there, Server, with_slot, with_more, IsCall, begin_log, told_created, Called, new_server}
 use Rattle.mt_laws.proofs.Slots.{of_files}
 use Rattle.mt_keeper.specs.declared.keeper.Stage.{Stage}
 use Rattle.mt_keeper.specs.declared.keeper.Stage.TheVariants.{Coming, Writing}
 use Rattle.mt_keeper.specs.declared.keeper.Log.{Log}
-use Rattle.mt_keeper.specs.Keeping.{Keeping, Holds, IsInStage, IsLogOf, segment_in, from_in, latest_in, is_newest, Place, place_of, AreInPlace}
-use Rattle.mt_keeper.specs.Calling.{Steps, acknowledged, with_new_log, with_changed, with_created, if_coming, first}
+use Rattle.mt_keeper.specs.Keeping.{Keeping, Holds, numbered, IsInStage, IsLogOf, segment_in, from_in, latest_in, is_newest, Place, place_of, AreInPlace}
+use Rattle.mt_keeper.specs.Calling.{Steps, acknowledged, with_new_log, with_changed, place_at, with_created, if_coming, first}
 use Rattle.mt_keeper.specs.Refusals.{IsNotComing}
 use Rattle.mt_keeper.specs.declared.keeper_fault.KeeperFault.TheVariants as faults
 use Rattle.mt_keeper.proofs.Refused.{not_in}
-use Rattle.mt_keeper.proofs.OneChanged.{SlotOf, slot_of, all_kept, same_of_all}
+use Rattle.mt_keeper.proofs.OneChanged.{slot_of, all_kept, same_of_all, in_numbered, numbers_more, numbered_more, one_apart}
 use Rattle.mt_keeper.proofs.Following.{writer_of}
 use Rattle.mt_keeper.proofs.Reaching.{log_at, segment_there, coming_slot}
 
@@ -45,7 +44,7 @@ other_worker worker (Some s) below same = omega (arith, below, same)
 pub is_fresh : (keeper : Keeping) (s : Server) → Holds keeper s → IsFresh (files_there s) (segment_head 0 keeper.workers 0)
 is_fresh keeper s holds file at same =
     let x = of_files s.slots file at in
-    let l = log_at (IsLogOf keeper.clock) keeper.logs s.slots x.0 holds.logs x.1 in
+    let l = log_at (IsLogOf keeper.clock) keeper.logs (numbered s) x.0 holds.logs (in_numbered s x.0 file holds.numbers x.1 x.2) in
     let known = holds.places.known (place_of l.0) (in_map place_of keeper.logs l.0 l.1) in
     let is : l.0.segment ≡ file.head.segment = l.2.segment ∙ segment_there x.0 file x.2 in
     other_worker keeper.workers file.head.segment (subst (λ (segment : Option Segment). IfSome segment (λ s. s.worker < keeper.workers)) is known) same
@@ -89,23 +88,25 @@ same_length R (l ∷ ls) [] are = absurd are
 same_length R (l ∷ ls) (x ∷ xs) are = ap suc (same_length R ls xs are.1)
 
 pub begins_log : (keeper : Keeping) (s : Server) (new : NewFile) → Holds keeper s → Begins new (segment_head 0 keeper.workers 0) → new.mark ≡ keeper.clock + 1
-    → (length keeper.logs ≡ length s.slots) × Steps s (with_new_log s keeper.workers) (record keeper { logs = keeper.logs ++ new_log keeper.workers new ∷ []; workers = keeper.workers + 1 })
+    → (length keeper.logs ≡ length (numbered s)) × Steps s (with_new_log s keeper.workers) (record keeper { logs = keeper.logs ++ new_log keeper.workers new ∷ []; workers = keeper.workers + 1 })
 begins_log keeper s new holds begins at = (
-  same_length (IsLogOf keeper.clock) keeper.logs s.slots holds.logs,
+  same_length (IsLogOf keeper.clock) keeper.logs (numbered s) holds.logs,
   (
-    subst (λ (mark : ℕ). IsCall s (record s { slots = s.slots ++ coming (begun head mark) ∷ [] })) is
+    subst (λ (mark : ℕ). IsCall s (with_more s (coming (begun head mark)))) is
         (begin_log s (writer_of new) new head (begun_keeps new (writer_of new) head begins refl) begins (λ u stands. let low = holds.acked u stands in omega (arith, low, at))
         (above_base keeper.clock new.mark s.checkpoints.base at holds.base) (omega arith) (is_fresh keeper s holds)),
     record {
       clock = holds.clock;
       acked = holds.acked;
       base = holds.base;
-      logs = all_zipped_more (IsLogOf keeper.clock) keeper.logs s.slots (new_log keeper.workers new) (coming (begun head (s.clock + 1))) holds.logs (record {
-        stage = (head, begins, ap (begun head) (sym is));
-        segment = refl;
-        from = refl;
-        latest = omega (arith, at);
-      });
+      numbers = numbers_more s.slots s.places (coming (begun head (s.clock + 1))) holds.numbers;
+      logs = subst (AllZip (IsLogOf keeper.clock) (keeper.logs ++ new_log keeper.workers new ∷ [])) (sym (numbered_more s.slots s.places (coming (begun head (s.clock + 1))) holds.numbers.within))
+          (all_zipped_more (IsLogOf keeper.clock) keeper.logs (numbered s) (new_log keeper.workers new) (coming (begun head (s.clock + 1))) holds.logs (record {
+            stage = (head, begins, ap (begun head) (sym is));
+            segment = refl;
+            from = refl;
+            latest = omega (arith, at);
+          }));
       places = begun_in_place keeper.workers keeper.logs new holds.places;
       checkpoints = holds.checkpoints;
     },
@@ -124,18 +125,19 @@ pub is_created : (keeper : Keeping) (s : Server) (number : ℕ) (log : Log) (new
     → ((head : Head) → Begins new head → Keeps w (begun head new.mark)) → w.failed ≡ false
     → Steps s (with_created s number) (record keeper { logs = slice_set keeper.logs number (record log { stage = Writing w }) })
 is_created keeper s number log new w holds at is keeps failed =
-    let of = slot_of (IsLogOf keeper.clock) keeper.logs s.slots number log holds.logs at in
+    let of = slot_of (IsLogOf keeper.clock) keeper.logs s number log holds.numbers holds.logs at in
     let here = coming_slot new of.slot (subst (λ (stage : Stage). IsInStage stage of.slot) is of.keeps.stage) in
     let j = begun here.0 new.mark in
     let before : s.slots ≡ of.front ++ coming j ∷ of.back = of.split ∙ ap (λ (x : Slot). of.front ++ x ∷ of.back) here.1 in
-    let after : with_changed s.slots number if_coming ≡ of.front ++ writing j ∷ of.back = of.changed if_coming ∙ ap (λ (x : Slot). of.front ++ if_coming x ∷ of.back) here.1 in (
+    let after : with_changed s.slots (place_at s number) if_coming ≡ of.front ++ writing j ∷ of.back = of.changed if_coming ∙ ap (λ (x : Slot). of.front ++ if_coming x ∷ of.back) here.1 in (
       subst (λ (slots : List Slot). IsCall (record s { slots = slots }) (with_created s number)) (sym before)
           (subst (λ (slots : List Slot). IsCall (with_slot s of.front (coming j) of.back) (record s { slots = slots })) (sym after) (told_created s of.front of.back j)),
       record {
         clock = holds.clock;
         acked = holds.acked;
         base = holds.base;
-        logs = all_kept (IsLogOf keeper.clock) (IsLogOf keeper.clock) keeper.logs s.slots number log now if_coming holds.logs at (λ l x still. still) kept;
+        numbers = of.numbers if_coming;
+        logs = all_kept keeper.clock keeper.clock keeper.logs s number log now if_coming holds.numbers holds.logs at (λ l x still. still) kept;
         places = subst (AreInPlace keeper.workers) (sym (same_of_all place_of keeper.logs number log now at (ap (λ (stage : Stage). (is_newest stage, log.segment)) (sym is)))) holds.places;
         checkpoints = holds.checkpoints;
       },
@@ -163,7 +165,7 @@ first_log w = record { segment = Some (record { worker = 0; number = 0 }); from 
 
 pub first_called : (new : NewFile) → Begins new (segment_head 0 0 0) → new.mark ≡ 1 → Called first
 first_called new begins at =
-    subst (λ (mark : ℕ). Called (record { clock = mark; acked = []; slots = writing (begun (segment_head 0 0 0) mark) ∷ []; checkpoints = only None })) at
+    subst (λ (mark : ℕ). Called (record { clock = mark; acked = []; slots = writing (begun (segment_head 0 0 0) mark) ∷ []; places = 0 ∷ []; checkpoints = only None })) at
     (new_server (writer_of new) new (segment_head 0 0 0) (begun_keeps new (writer_of new) (segment_head 0 0 0) begins refl) refl)
 
 pub first_holds : (new : NewFile) (w : Writer) (logs : List Log) → Begins new (segment_head 0 0 0) → new.mark ≡ 1 → ((head : Head) → Begins new head → Keeps w (begun head new.mark))
@@ -174,6 +176,14 @@ first_holds new w logs begins at keeps failed is =
       clock = refl;
       acked = λ u stands. absurd (no_element u stands);
       base = tt;
+      numbers = record {
+        apart = one_apart 0;
+        within = λ place at. elim (head_or_tail 0 place [] at) as (λ _. place < 1) [
+          | inl e ↦ omega (arith, e)
+          | inr none ↦ absurd (no_element place none)
+        ];
+        all = λ place file below of. subst (Contains (0 ∷ [])) (omega (arith, below)) (head_in 0 []);
+      };
       logs = (record { stage = (kept, failed); segment = refl; from = refl; latest = omega (arith, kept.last) }, tt);
       places = record {
         known = λ place stands. elim (head_or_tail here place [] stands) as (λ _. IfSome place.1 (λ s. s.worker < 1)) [
@@ -204,6 +214,7 @@ still_acknowledged keeper s u holds low = record {
     | inr before ↦ holds.acked x before
   ];
   base = holds.base;
+  numbers = holds.numbers;
   logs = holds.logs;
   places = holds.places;
   checkpoints = holds.checkpoints;

@@ -1,5 +1,5 @@
 -- How far all logs are synced.
-use Rattle.std.proofs.Common.{◌≡◌, ◌⊎◌, inl, inr, ℕ, ◌≤◌, Bool, true, false, Option, Some, IfSome, List, [], ◌∷◌, map, Contains, refl, sym, ap, ◌∙◌, subst, arith}
+use Rattle.std.proofs.Common.{◌≡◌, inl, inr, ℕ, ◌≤◌, Bool, true, false, Option, Some, IfSome, List, [], ◌∷◌, map, Contains, refl, sym, ap, ◌∙◌, subst, arith}
 use Rattle.std.specs.List.{AllZip}
 use Rattle.std.proofs.lemmas.Bool.{false≢true, true≢false}
 use Rattle.mt_words.proofs.Elements.{no_element, head_or_tail, head_in, tail_in}
@@ -16,7 +16,8 @@ use Rattle.mt_laws.proofs.Slots.{same_there, in_files, of_files}
 use Rattle.mt_keeper.specs.declared.keeper.Stage.{Stage}
 use Rattle.mt_keeper.specs.declared.keeper.Stage.TheVariants.{Coming, Writing, Followed, Going, Gone}
 use Rattle.mt_keeper.specs.declared.keeper.Log.{Log}
-use Rattle.mt_keeper.specs.Keeping.{Keeping, Holds, IsInStage, IsLogOf, segment_in, is_newest, Place, place_of, reach_in}
+use Rattle.mt_keeper.specs.Keeping.{Keeping, Holds, numbered, IsInStage, IsLogOf, segment_in, is_newest, Place, place_of, reach_in}
+use Rattle.mt_keeper.proofs.OneChanged.{in_numbered, of_numbered}
 use Rattle.mt_keeper.proofs.Writes.{written_slot}
 use Rattle.mt_keeper.proofs.Following.{writer_of}
 
@@ -85,7 +86,7 @@ pub all_reached : (keeper : Keeping) (s : Server) (reach : ℕ) → Holds keeper
     → AllReached reach (files_there s)
 all_reached keeper s reach holds above file at =
     let x = of_files s.slots file at in
-    let l = log_at (IsLogOf keeper.clock) keeper.logs s.slots x.0 holds.logs x.1 in
+    let l = log_at (IsLogOf keeper.clock) keeper.logs (numbered s) x.0 holds.logs (in_numbered s x.0 file holds.numbers x.1 x.2) in
     by_age x.0 l.0 x.2 l.1 l.2 (is_newest l.0.stage) refl
   where
     by_age : (x : Slot) (l : Log) → log_of x ≡ there file → Contains keeper.logs l → IsLogOf keeper.clock l x → (newest : Bool) → is_newest l.stage ≡ newest
@@ -103,12 +104,12 @@ all_reached keeper s reach holds above file at =
         (in_map place_of keeper.logs l stands) in
         let later = holds.places.followed older.0 place in
         let m = of_map place_of keeper.logs (true, later.0) later.1 in
-        let y = slot_at (IsLogOf keeper.clock) keeper.logs s.slots m.0 holds.logs m.1 in
+        let y = slot_at (IsLogOf keeper.clock) keeper.logs (numbered s) m.0 holds.logs m.1 in
         let is = newest_reached reach m.0.stage y.0 y.2.stage (ap (λ (p : Place). p.0) m.2) (above m.0 m.1) in
         let before : Some older.0 ≡ file.head.segment = sym older.1 ∙ segment_there x file of in
         let after : later.0 ≡ is.0.head.segment = sym (ap (λ (p : Place). p.1) m.2) ∙ y.2.segment ∙ segment_there y.0 (file_of is.0) is.1 in record {
           last = file_of is.0;
-          stands = in_files s.slots y.0 (file_of is.0) y.1 is.1;
+          stands = in_files s.slots y.0 (file_of is.0) (of_numbered s y.0 holds.numbers y.1) is.1;
           of_log = inr (subst (λ (segment : Option Segment). IsEarlier segment is.0.head.segment) before (subst (IsEarlier (Some older.0)) after later.2));
           reached = is.2;
         }

@@ -1,10 +1,10 @@
 -- Why a call of a log's writer is refused.
-use Rattle.std.proofs.Common.{◌≡◌, ◌⊎◌, inl, inr, ℕ, ◌+◌, Some, refl, sym, ap, ◌∙◌, subst}
+use Rattle.std.proofs.Common.{◌≡◌, ◌⊎◌, ℕ, Some, refl, sym, ap, ◌∙◌, subst}
 use Rattle.std.specs.Prelude.{slice_get}
 use Rattle.std.proofs.lemmas.Option.{same_Some}
 use Rattle.mt_words.specs.declared.record.Change.{Change}
 use Rattle.mt_writer.specs.declared.writer_fault.WriterFault.{WriterFault}
-use Rattle.mt_writer.specs.Journals.{Writer, NewFile}
+use Rattle.mt_writer.specs.Journals.{Writer}
 use Rattle.mt_writer.specs.Refusing.{HasEnded, IsRefused, IsUnlawful}
 use Rattle.mt_keeper.specs.declared.keeper.Stage.{Stage}
 use Rattle.mt_keeper.specs.declared.keeper.Stage.TheVariants.{Writing}

@@ -1,7 +1,6 @@
 -- Calls of a log's writer.
-use Rattle.std.proofs.Common.{◌≡◌, ℕ, ◌+◌, ◌≤◌, Bool, true, false, List, [], ◌∷◌, ◌++◌, map, slice_set, Option, None, Some, IfSome, Contains, refl, sym, ap, ◌∙◌, subst, append_assoc, arith}
+use Rattle.std.proofs.Common.{◌≡◌, ℕ, ◌+◌, ◌≤◌, false, List, [], ◌∷◌, ◌++◌, slice_set, Option, None, Some, IfSome, refl, sym, ap, ◌∙◌, subst, append_assoc, arith}
 use Rattle.std.specs.Prelude.{slice_get}
-use Rattle.std.specs.List.{AllZip}
 use Rattle.std.proofs.lemmas.List.{append-nil}
 use Rattle.std.proofs.lemmas.Option.{IfSome_then}
 use Rattle.mt_words.specs.Changes.{Logged}
@@ -13,12 +12,12 @@ use Rattle.mt_writer.specs.Journals.{Journal, Writer, Keeps, records_of, handed_
 use Rattle.mt_laws.specs.Lives.{Checkpoints}
 use Rattle.mt_laws.specs.Writing.{Slot, coming, writing, sealed, going, gone, Server, with_slot, IsCall}
 use Rattle.mt_keeper.specs.declared.keeper.Stage.{Stage}
-use Rattle.mt_keeper.specs.declared.keeper.Stage.TheVariants.{Coming, Writing, Followed, Going, Gone}
+use Rattle.mt_keeper.specs.declared.keeper.Stage.TheVariants.{Writing}
 use Rattle.mt_keeper.specs.declared.keeper.Log.{Log}
 use Rattle.mt_keeper.specs.declared.keeper.Making.{Making}
-use Rattle.mt_keeper.specs.Keeping.{Keeping, Holds, AreKept, IsInStage, IsLogOf, segment_in, from_in, latest_in, is_newest, place_of, AreInPlace}
-use Rattle.mt_keeper.specs.Calling.{Steps, with_log, with_changed, if_written}
-use Rattle.mt_keeper.proofs.OneChanged.{SlotOf, slot_of, all_kept, same_of_all}
+use Rattle.mt_keeper.specs.Keeping.{Keeping, Holds, AreKept, numbered, IsInStage, IsLogOf, segment_in, from_in, latest_in, is_newest, place_of, AreInPlace}
+use Rattle.mt_keeper.specs.Calling.{Steps, with_log, with_changed, place_at, if_written}
+use Rattle.mt_keeper.proofs.OneChanged.{slot_of, all_kept, same_of_all}
 
 -- ---- what stays as the clock goes on
 
@@ -49,16 +48,16 @@ written_slot w (going j) is = absurd is
 written_slot w (gone records) is = absurd is
 
 -- the journal of the log that a writer keeps
-pub record KeptAt (w : Writer) (slots : List Slot) (number : ℕ) : Type 0 where
+pub record KeptAt (w : Writer) (s : Server) (number : ℕ) : Type 0 where
   pub journal : Journal
-  pub at : slice_get slots number ≡ Some (writing journal)
+  pub at : slice_get (numbered s) number ≡ Some (writing journal)
   pub keeps : Keeps w journal
   pub failed : w.failed ≡ false
 
 pub kept_at : (keeper : Keeping) (s : Server) (number : ℕ) (log : Log) (w : Writer) → Holds keeper s → slice_get keeper.logs number ≡ Some log → log.stage ≡ Writing w
-    → KeptAt w s.slots number
+    → KeptAt w s number
 kept_at keeper s number log w holds at is =
-    let of = slot_of (IsLogOf keeper.clock) keeper.logs s.slots number log holds.logs at in
+    let of = slot_of (IsLogOf keeper.clock) keeper.logs s number log holds.numbers holds.logs at in
     let here = written_slot w of.slot (subst (λ (stage : Stage). IsInStage stage of.slot) is of.keeps.stage) in record {
       journal = here.0;
       at = of.at ∙ ap (λ (x : Slot). Some x) here.1;
@@ -85,12 +84,12 @@ pub writes : (keeper : Keeping) (s : Server) (number : ℕ) (log : Log) (w later
     → Steps s (record (with_log s number (if_written change)) { clock = time })
     (record keeper { clock = clock; logs = slice_set keeper.logs number (record log { stage = Writing later }) })
 writes keeper s number log w later clock time change holds at is above same more step =
-    let of = slot_of (IsLogOf keeper.clock) keeper.logs s.slots number log holds.logs at in
+    let of = slot_of (IsLogOf keeper.clock) keeper.logs s number log holds.numbers holds.logs at in
     let here = written_slot w of.slot (subst (λ (stage : Stage). IsInStage stage of.slot) is of.keeps.stage) in
     let last : w.last ≤ keeper.clock + 1 = subst (λ (stage : Stage). latest_in stage ≤ keeper.clock + 1) is of.keeps.latest in
     let now = more here.0 here.2 here.3 last in
     let before : s.slots ≡ of.front ++ writing here.0 ∷ of.back = of.split ∙ ap (λ (x : Slot). of.front ++ x ∷ of.back) here.1 in
-    let after : with_changed s.slots number (if_written change) ≡ of.front ++ writing (change here.0) ∷ of.back =
+    let after : with_changed s.slots (place_at s number) (if_written change) ≡ of.front ++ writing (change here.0) ∷ of.back =
     of.changed (if_written change) ∙ ap (λ (x : Slot). of.front ++ if_written change x ∷ of.back) here.1 in (
       subst (λ (slots : List Slot). IsCall (record s { slots = slots }) (record (with_log s number (if_written change)) { clock = time })) (sym before)
           (subst (λ (slots : List Slot). IsCall (with_slot s of.front (writing here.0) of.back) (record s { clock = time; slots = slots })) (sym after)
@@ -99,7 +98,8 @@ writes keeper s number log w later clock time change holds at is above same more
         clock = same;
         acked = λ u stands. let below = holds.acked u stands in omega (arith, below, above);
         base = base_later keeper.clock clock s.checkpoints.base above holds.base;
-        logs = all_kept (IsLogOf keeper.clock) (IsLogOf clock) keeper.logs s.slots number log new (if_written change) holds.logs at (log_later keeper.clock clock above) kept;
+        numbers = of.numbers (if_written change);
+        logs = all_kept keeper.clock clock keeper.logs s number log new (if_written change) holds.numbers holds.logs at (log_later keeper.clock clock above) kept;
         checkpoints = kept_later keeper.clock clock keeper.base keeper.making s.checkpoints above holds.checkpoints;
         places = subst (AreInPlace keeper.workers) (sym (same_of_all place_of keeper.logs number log new at (ap (λ (stage : Stage). (is_newest stage, log.segment)) (sym is)))) holds.places;
       },

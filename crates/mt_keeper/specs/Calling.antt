@@ -1,19 +1,23 @@
 -- The server after each call.
-use Rattle.std.specs.Prelude.{ℕ, zero, suc, ◌≡◌, ◌+◌, Some, None, List, [], ◌∷◌, ◌++◌, slice_get}
+use Rattle.std.specs.Prelude.{ℕ, zero, suc, ◌≡◌, ◌+◌, Some, None, List, [], ◌∷◌, length, slice_get, slice_index_or}
 use Rattle.mt_words.specs.declared.update.Update.{Update}
 use Rattle.mt_words.specs.Changes.{Logged}
 use Rattle.mt_record.specs.Encoding.{segment_head}
 use Rattle.mt_writer.specs.Journals.{Journal, records_of, holding, taking, syncing, begun, IsSealed}
 use Rattle.mt_scan.specs.Choice.{CheckpointReading}
 use Rattle.mt_laws.specs.Lives.{only}
-use Rattle.mt_laws.specs.Writing.{Slot, coming, writing, sealed, going, gone, Server, clock_after, IsCall}
-use Rattle.mt_keeper.specs.Keeping.{Keeping, Holds}
+use Rattle.mt_laws.specs.Writing.{Slot, coming, writing, sealed, going, gone, Server, with_more, clock_after, IsCall}
+use Rattle.mt_keeper.specs.Keeping.{Keeping, Holds, numbered}
 
--- the slots, of which this one is changed
+-- the slots, of which the one at this place is changed
 abbrev pub with_changed : List Slot → ℕ → (Slot → Slot) → List Slot
-with_changed [] log change = []
+with_changed [] place change = []
 with_changed (slot ∷ slots) zero change = change slot ∷ slots
-with_changed (slot ∷ slots) (suc log) change = slot ∷ with_changed slots log change
+with_changed (slot ∷ slots) (suc place) change = slot ∷ with_changed slots place change
+
+-- the place of the file with this number
+abbrev pub place_at : Server → (log : ℕ) → ℕ
+place_at s log = slice_index_or s.places log (length s.slots)
 
 -- the file, if it is written, with this journal
 abbrev pub if_written : (Journal → Journal) → Slot → Slot
@@ -41,7 +45,7 @@ if_going (going j) = gone (records_of j)
 if_going slot = slot
 
 abbrev pub with_log : Server → ℕ → (Slot → Slot) → Server
-with_log s log change = record s { slots = with_changed s.slots log change }
+with_log s log change = record s { slots = with_changed s.slots (place_at s log) change }
 
 -- the record is appended to the log
 abbrev pub appended : Server → ℕ → Logged → Server
@@ -73,18 +77,18 @@ with_gone s log = with_log s log if_going
 
 -- this segment is coming, with a mark at its `from`
 abbrev pub with_segment : Server → (from worker number : ℕ) → Server
-with_segment s from worker number = record s { slots = s.slots ++ coming (begun (segment_head from worker number) from) ∷ [] }
+with_segment s from worker number = with_more s (coming (begun (segment_head from worker number) from))
 
 -- the log of a new worker is coming, with a mark above the clock
 abbrev pub with_new_log : Server → (worker : ℕ) → Server
-with_new_log s worker = record s { slots = s.slots ++ coming (begun (segment_head 0 worker 0) (s.clock + 1)) ∷ [] }
+with_new_log s worker = with_more s (coming (begun (segment_head 0 worker 0) (s.clock + 1)))
 
 abbrev pub acknowledged : Server → Update → Server
 acknowledged s u = record s { acked = u ∷ s.acked }
 
 -- a server with one log, which has a mark at 1
 abbrev pub first : Server
-first = record { clock = 1; acked = []; slots = writing (begun (segment_head 0 0 0) 1) ∷ []; checkpoints = only None }
+first = record { clock = 1; acked = []; slots = writing (begun (segment_head 0 0 0) 1) ∷ []; places = 0 ∷ []; checkpoints = only None }
 
 -- a stamp was taken for no record
 abbrev pub counted_up : Server → Server
@@ -108,7 +112,7 @@ pub record StepsToNext (s : Server) (log : ℕ) (keeper : Keeping) : Type 0 wher
   pub last : ℕ
   pub worker : ℕ
   pub number : ℕ
-  pub stands : slice_get s.slots log ≡ Some (writing j)
+  pub stands : slice_get (numbered s) log ≡ Some (writing j)
   pub is_sealed : IsSealed last worker number j
   pub seals : IsCall s (with_sealed s log)
   pub begins : Steps (with_sealed s log) (with_segment (with_sealed s log) last worker (number + 1)) keeper

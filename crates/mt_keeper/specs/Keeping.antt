@@ -1,16 +1,17 @@
 -- The server that a keeper holds: its clock, and a slot for each log.
-use Rattle.std.specs.Prelude.{◌≡◌, ℕ, ◌+◌, ◌≤◌, ◌<◌, Bool, true, false, Option, Some, None, IfSome, List, map, All, Contains, slice_get}
-use Rattle.std.specs.List.{AllZip}
+use Rattle.std.specs.Prelude.{◌≡◌, ℕ, ◌+◌, ◌≤◌, ◌<◌, Bool, true, false, Option, Some, None, IfSome, List, [], length, map, All, Contains, slice_get, slice_index_or, nat_eq}
+use Rattle.std.specs.List.{AllZip, IsDistinct}
 use Rattle.mt_words.specs.declared.update.Update.{Update}
 use Rattle.mt_record.specs.declared.feed.head.Segment.{Segment}
 use Rattle.mt_record.specs.declared.feed.head.Head.{Head}
 use Rattle.mt_record.specs.Encoding.{segment_head}
 use Rattle.mt_scan.specs.Segments.{IsEarlier, IsJustBefore}
+use Rattle.mt_writer.specs.Files.{OpenFile}
 use Rattle.mt_writer.specs.Journals.{Journal, Writer, NewFile, Keeps, begun, Begins, IsSealed}
 use Rattle.mt_scan.specs.Choice.{CheckpointReading}
 use Rattle.mt_recover.specs.Recovery.{begin_of}
-use Rattle.mt_laws.specs.Lives.{Checkpoints}
-use Rattle.mt_laws.specs.Writing.{Slot, coming, writing, sealed, going, gone, Server}
+use Rattle.mt_laws.specs.Lives.{Checkpoints, there}
+use Rattle.mt_laws.specs.Writing.{Slot, coming, writing, sealed, going, gone, log_of, Server}
 use Rattle.mt_keeper.specs.declared.keeper.Stage.{Stage}
 use Rattle.mt_keeper.specs.declared.keeper.Stage.TheVariants.{Coming, Writing, Followed, Going, Gone}
 use Rattle.mt_keeper.specs.declared.keeper.Log.{Log}
@@ -30,6 +31,20 @@ pub record Keeping : Type 0 where
   pub next : ℕ
   -- whether a write or a sync failed
   pub failed : Bool
+
+-- the slot at this place
+abbrev pub slot_in : List Slot → ℕ → Slot
+slot_in slots place = slice_index_or slots place (gone [])
+
+-- the files that calls name by a number, in the order of the numbers
+abbrev pub numbered : Server → List Slot
+numbered s = map (slot_in s.slots) s.places
+
+-- each number has a place of its own, where a slot is, and each file that is there has a number
+pub record AreNumbered (slots : List Slot) (places : List ℕ) : Type 0 where
+  pub apart : IsDistinct nat_eq places
+  pub within : (place : ℕ) → Contains places place → place < length slots
+  pub all : (place : ℕ) (file : OpenFile) → place < length slots → log_of (slot_in slots place) ≡ there file → Contains places place
 
 -- the file is a sealed segment with this last timestamp
 abbrev pub IsWhole : ℕ → Journal → Type 0
@@ -126,7 +141,8 @@ pub record Holds (keeper : Keeping) (s : Server) : Type 0 where
   pub clock : s.clock ≡ keeper.clock
   pub acked : (u : Update) → Contains s.acked u → u.timestamp ≤ keeper.clock
   pub base : IfSome s.checkpoints.base (λ base. base.end ≤ keeper.clock)
-  pub logs : AllZip (IsLogOf keeper.clock) keeper.logs s.slots
+  pub numbers : AreNumbered s.slots s.places
+  pub logs : AllZip (IsLogOf keeper.clock) keeper.logs (numbered s)
   pub places : AreInPlace keeper.workers (map place_of keeper.logs)
   pub checkpoints : AreKept keeper.clock keeper.base keeper.making s.checkpoints
 

@@ -11,7 +11,7 @@ use Rattle.mt_laws.specs.Writing.{writing, Server}
 use Rattle.mt_keeper.specs.declared.keeper.Stage.{Stage}
 use Rattle.mt_keeper.specs.declared.keeper.Stage.TheVariants.{Coming, Writing, Going}
 use Rattle.mt_keeper.specs.declared.keeper.Log.{Log}
-use Rattle.mt_keeper.specs.Keeping.{Keeping, IsReading, HasRead, ArePast}
+use Rattle.mt_keeper.specs.Keeping.{Keeping, numbered, IsReading, HasRead, ArePast}
 use Rattle.mt_keeper.specs.declared.keeper_fault.KeeperFault.{KeeperFault}
 use Rattle.mt_keeper.specs.declared.keeper_fault.KeeperFault.TheVariants as faults
 
@@ -55,7 +55,7 @@ NoChange time change w reason = NoMark time w reason ⊎ IsUnlawful change reaso
 
 -- a write of the log was not told to be synced
 abbrev pub IsInFlight : Server → (number : ℕ) → KeeperFault → Type 0
-IsInFlight s number fault = (fault ≡ faults.Early) × (j : Journal) × (slice_get s.slots number ≡ Some (writing j)) × (j.taken ≡ [] → ⊥)
+IsInFlight s number fault = (fault ≡ faults.Early) × (j : Journal) × (slice_get (numbered s) number ≡ Some (writing j)) × (j.taken ≡ [] → ⊥)
 
 -- no log may be begun: no number is left for a worker, or there is no memory
 abbrev pub BeginsNone : Keeping → KeeperFault → Type 0
@@ -83,7 +83,7 @@ IsUnsealable log fault = (fault ≡ faults.Early) × (w : Writer) × (segment : 
 
 -- not all records of the log are synced
 abbrev pub IsNotWhole : Server → (number : ℕ) → KeeperFault → Type 0
-IsNotWhole s number fault = (fault ≡ faults.Early) × (j : Journal) × (slice_get s.slots number ≡ Some (writing j)) × (j.taken ++ j.held ≡ [] → ⊥)
+IsNotWhole s number fault = (fault ≡ faults.Early) × (j : Journal) × (slice_get (numbered s) number ≡ Some (writing j)) × (j.taken ++ j.held ≡ [] → ⊥)
 
 -- a checkpoint is being made
 abbrev pub IsMaking : Keeping → KeeperFault → Type 0

@@ -2,7 +2,7 @@
 ghost use Rattle.std.specs.Prelude.{◌≡◌, ◌⊎◌, ◌∷◌, ◌++◌, [], true, Some, Err, length, IfOk, IfErr, OnOk, OnErr};
 ghost use Rattle.mt_writer.specs.declared.writer_fault.WriterFault.TheVariants.{Failed};
 ghost use Rattle.mt_laws.specs.Writing.{Server};
-ghost use Rattle.mt_keeper.specs.Keeping.{Holds};
+ghost use Rattle.mt_keeper.specs.Keeping.{Holds, numbered};
 ghost use Rattle.mt_keeper.specs.Calling.{Steps, with_new_log, with_created};
 ghost use Rattle.mt_keeper.specs.declared.keeper.Stage.TheVariants.{Coming};
 ghost use Rattle.mt_keeper.specs.Refusals.{HasFailed, IsNotComing, BeginsNone};
@@ -20,7 +20,7 @@ impl Keeper {
     /// Begins the log of a new worker, with a mark at the next stamp, and returns its number. Its file is to be created
     /// (`bytes`). From now on acknowledgements wait for this log. Err: no log is begun.
     pub fn begin_log(&mut self, alloc: Global) -> Result<usize, KeeperFault>
-        ensures step { (s : Server) → Holds self.old s → IfOk result (λ log. (log ≡ length s.slots) × Steps s (with_new_log s self.old.workers) self.new) }
+        ensures step { (s : Server) → Holds self.old s → IfOk result (λ log. (log ≡ length (numbered s)) × Steps s (with_new_log s self.old.workers) self.new) }
         ensures err { OnErr result (self.new ≡ self.old) }
         ensures failed { self.old.failed ≡ true → result ≡ Err (faults.Writer Failed) }
         ensures fault { IfErr result (BeginsNone self.old) }

@@ -1,10 +1,11 @@
 //! Goes on with the logs that a crash left.
-ghost use Rattle.std.specs.Prelude.{◌≡◌, ◌⊎◌, ◌+◌, ◌^◌, ◌↔◌, length, IsTrue, IsSomeAnd, IfOk, IfErr, OnErr};
+ghost use Rattle.std.specs.Prelude.{◌≡◌, ◌⊎◌, ◌+◌, ◌^◌, ◌↔◌, ℕ, List, length, map, IsTrue, IsSomeAnd, IfOk, IfErr, OnErr};
 ghost use Rattle.std.specs.List.{list_any};
 ghost use Rattle.mt_scan.specs.Segments.{is_earlier as is_earlier_in};
 ghost use Rattle.mt_writer.specs.declared.writer_fault.WriterFault.TheVariants.{Full, Memory as MemoryFault};
+ghost use Rattle.mt_laws.specs.Writing.{Server, Called};
 ghost use Rattle.mt_keeper.specs.Keeping.{latest_in};
-ghost use Rattle.mt_keeper.specs.Restarting.{without_logs, IsNoLog, HasSame, AddsNone, workers_with};
+ghost use Rattle.mt_keeper.specs.Restarting.{without_logs, IsBack, IsNoLog, HasSame, IsAdded, AreAdded, AddsNone, workers_with, segments_of, among, AreFilesAfter, Restarts};
 ghost use Rattle.mt_keeper.specs.declared.keeper_fault.KeeperFault.TheVariants as faults;
 
 use crate::keeper::{Keeper, Log, Stage};
@@ -55,6 +56,7 @@ impl Restart {
     /// number is left for another worker.
     pub fn add(&mut self, alloc: Global, bytes: &[u8]) -> Result<usize, KeeperFault>
         ensures number { IfOk result (λ number. number ≡ length self.old.logs) }
+        ensures added { IfOk result (λ number. IsAdded self.old bytes.now self.new) }
         ensures err { OnErr result (self.new ≡ self.old) }
         ensures fault { IfErr result (AddsNone self.old bytes.now) }
     {
@@ -72,10 +74,12 @@ impl Restart {
         Ok(number)
     }
 
-    /// Returns the keeper of these logs, after all were added. The newest segment of each worker may be written, and so may
-    /// each log that is no segment.
+    /// Returns the keeper of these logs, after all were added, in any order. The newest segment of each worker may be
+    /// written, and so may each log that is no segment.
     pub fn done(self) -> Keeper
-        ensures kept { result ≡ record self { logs = result.logs } }
+        ensures value { result ≡ record self { logs = map (among (segments_of self.logs)) self.logs } }
+        ensures restarts { (s : Server) (cutoff begin number : ℕ) (files : List (List ℕ)) → Called s → (of : AreFilesAfter s cutoff begin files) →
+            AreAdded (without_logs cutoff begin number) files self → Restarts s cutoff begin files of result }
     {
         let mut keeper = self.keeper;
         settle(&mut keeper.logs);
@@ -99,7 +103,7 @@ impl Stage {
 
 /// Notes that the logs that a later segment follows are written no more.
 fn settle(logs: &mut [Log])
-    ensures { length logs.new ≡ length logs.old }
+    ensures { logs.new ≡ map (among (segments_of logs.old)) logs.old }
 {
     for i in 0..logs.len() {
         if has_later(logs, logs[i].segment) {
@@ -111,6 +115,7 @@ fn settle(logs: &mut [Log])
 
 /// Returns the log of these bytes, which may be written. Err: out of memory, or the bytes are no log that goes on.
 fn read_back(alloc: Global, bytes: &[u8], clock: u64) -> Result<Log, KeeperFault>
+    ensures ok { IfOk result (IsBack clock bytes.now) }
     ensures fault { IfErr result (λ fault. (fault ≡ faults.Log) × IsNoLog clock bytes.now ⊎ (fault ≡ faults.Writer MemoryFault)) }
 {
     let front = match cut_log(alloc, bytes) {

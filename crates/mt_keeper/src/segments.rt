@@ -6,7 +6,7 @@ ghost use Rattle.mt_writer.specs.Refusing.{MayNotSeal};
 ghost use Rattle.mt_writer.specs.declared.writer_fault.WriterFault.TheVariants as writer_faults;
 ghost use Rattle.mt_laws.specs.Writing.{Server, Stands};
 ghost use Rattle.mt_keeper.specs.declared.keeper.Log.{Log as Entry};
-ghost use Rattle.mt_keeper.specs.Keeping.{Holds, IsFollowedBy};
+ghost use Rattle.mt_keeper.specs.Keeping.{Holds, numbered, IsFollowedBy};
 ghost use Rattle.mt_keeper.specs.Calling.{StepsToNext};
 ghost use Rattle.mt_keeper.specs.Refusals.{HasFailed, HasNoNext, IsNotWhole, IsUnsealable};
 ghost use Rattle.mt_keeper.specs.declared.keeper_fault.KeeperFault.TheVariants as faults;
@@ -34,7 +34,7 @@ impl Keeper {
     /// one's file is to be created (`bytes`). No record may be appended until then. Err: the log is as it was. `Early`: not
     /// all of its records are synced.
     pub fn begin_segment(&mut self, alloc: Global, log: usize) -> Result<usize, KeeperFault>
-        ensures step { (s : Server) → Stands s → Holds self.old s → IfOk result (λ next. (next ≡ length s.slots) × StepsToNext s log self.new) }
+        ensures step { (s : Server) → Stands s → Holds self.old s → IfOk result (λ next. (next ≡ length (numbered s)) × StepsToNext s log self.new) }
         ensures err { OnErr result (self.new ≡ self.old) }
         ensures failed { self.old.failed ≡ true → result ≡ Err (faults.Writer writer_faults.Failed) }
         ensures fault { (s : Server) → Holds self.old s → IfErr result (λ fault.

@@ -1,5 +1,5 @@
 //! Tests of what no contract says: that calls succeed.
-use crate::{First, Keeper, KeeperFault};
+use crate::{First, Keeper, KeeperFault, Restart};
 use mt_record::Given;
 use mt_writer::WriterFault;
 use std::alloc::Global;
@@ -42,6 +42,29 @@ fn acknowledgements_wait_for_a_new_log(rt: HostRuntime) {
     assert_eq!(&rt; keeper.mark(0), Ok(()));
     assert_eq!(&rt; sync(alloc, &mut keeper), Ok(()));
     assert_eq!(&rt; keeper.acknowledged_below(), 2);
+}
+
+#[test]
+fn a_segment_follows_once_all_is_synced(rt: HostRuntime) {
+    let alloc = rt.alloc();
+    let mut keeper = keeper(alloc, &rt);
+    assert_eq!(&rt; keeper.mark(0), Ok(()));
+    assert_eq!(&rt; keeper.begin_segment(alloc, 0), Err(KeeperFault::Early));
+    assert_eq!(&rt; sync(alloc, &mut keeper), Ok(()));
+    assert_eq!(&rt; keeper.begin_segment(alloc, 0), Ok(1));
+    assert_eq!(&rt; keeper.created(1), Ok(()));
+    assert_eq!(&rt; keeper.mark(1), Ok(()));
+}
+
+#[test]
+fn a_restart_goes_on_with_a_log_once(rt: HostRuntime) {
+    let alloc = rt.alloc();
+    let first = First::begin(alloc).expect(&rt, "memory");
+    let mut restart = Restart::new(alloc, 1, 0, 0);
+    assert_eq!(&rt; restart.add(alloc, first.bytes()), Ok(0));
+    assert_eq!(&rt; restart.add(alloc, first.bytes()), Err(KeeperFault::Log));
+    let mut keeper = restart.done();
+    assert_eq!(&rt; keeper.remove(0, b"k"), Ok(1));
 }
 
 #[test]

@@ -10,7 +10,7 @@ ghost use Rattle.mt_writer.specs.Files.{file_bytes};
 ghost use Rattle.mt_writer.specs.Journals.{Journal, file_of, handed_out};
 ghost use Rattle.mt_writer.specs.declared.writer_fault.WriterFault.TheVariants.{Failed};
 ghost use Rattle.mt_laws.specs.Writing.{writing, Server};
-ghost use Rattle.mt_keeper.specs.Keeping.{Holds};
+ghost use Rattle.mt_keeper.specs.Keeping.{Holds, numbered};
 ghost use Rattle.mt_keeper.specs.Calling.{Steps, appended, with_taken, with_synced};
 ghost use Rattle.mt_keeper.specs.Refusals.{HasFailed, HasNoStamp, IsNotWritten, TakesNot, NoMark, NoChange, IsInFlight};
 ghost use Rattle.mt_keeper.specs.declared.keeper_fault.KeeperFault.TheVariants as faults;
@@ -78,7 +78,7 @@ impl Keeper {
     /// bytes are taken. `Early`: `synced` was not called for the write before it.
     pub fn take(&mut self, log: usize, spare: Vec<u8>) -> Result<Vec<u8>, KeeperFault>
         ensures step { (s : Server) → Holds self.old s → OnOk result (Steps s (with_taken s log) self.new) }
-        ensures bytes { (s : Server) (j : Journal) → Holds self.old s → slice_get s.slots log ≡ Some (writing j) →
+        ensures bytes { (s : Server) (j : Journal) → Holds self.old s → slice_get (numbered s) log ≡ Some (writing j) →
             IfOk result (λ bytes. log_bytes j.head (handed_out j) ++ bytes.items ≡ file_bytes (file_of j)) }
         ensures err { OnErr result (self.new ≡ self.old) }
         ensures failed { self.old.failed ≡ true → result ≡ Err (faults.Writer Failed) }

@@ -1,5 +1,4 @@
-use Rattle.std.proofs.Common.{ℕ, ◌≤◌, sym, ap, ◌∙◌, subst, length, arith}
-use Rattle.mt_words.specs.declared.update.Update.{Update}
+use Rattle.std.proofs.Common.{sym, ap, subst, length, arith}
 use Rattle.mt_laws.specs.Writing.{tell_client}
 use Rattle.mt_keeper.specs.contracts.keeper.Keeper.{the_view}
 use Rattle.mt_keeper.specs.Keeping.{Keeping, Holds}

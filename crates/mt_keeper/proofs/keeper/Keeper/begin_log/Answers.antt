@@ -1,7 +1,6 @@
-use Rattle.std.proofs.Common.{◌≡◌, ℕ, ◌+◌, List, [], ◌∷◌, ◌++◌, length, sym, ap, ◌∙◌, subst, arith}
+use Rattle.std.proofs.Common.{◌≡◌, ℕ, ◌+◌, [], ◌∷◌, ◌++◌, length, sym, ap, ◌∙◌, subst, arith}
 use Rattle.mt_record.specs.Encoding.{segment_head}
-use Rattle.mt_writer.specs.Journals.{NewFile, Begins}
-use Rattle.mt_keeper.specs.declared.keeper.Log.{Log}
+use Rattle.mt_writer.specs.Journals.{Begins}
 use Rattle.mt_keeper.specs.Keeping.{Keeping, Holds}
 use Rattle.mt_keeper.specs.Calling.{with_new_log}
 use Rattle.mt_keeper.proofs.NewLogs.{new_log, begins_log}

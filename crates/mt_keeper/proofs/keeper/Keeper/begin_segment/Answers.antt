@@ -3,7 +3,7 @@ use Rattle.std.specs.Prelude.{slice_get}
 use Rattle.std.proofs.lemmas.Slice.Zip.{AllZip-long}
 use Rattle.mt_keeper.specs.declared.keeper.Log.{Log}
 use Rattle.mt_keeper.specs.contracts.keeper.Keeper.{the_view}
-use Rattle.mt_keeper.specs.Keeping.{Keeping, Holds, IsLogOf}
+use Rattle.mt_keeper.specs.Keeping.{Keeping, Holds, numbered, IsLogOf}
 use Rattle.mt_keeper.specs.Calling.{StepsToNext}
 use Rattle.mt_keeper.proofs.OneChanged.{reads}
 use Rattle.mt_keeper.proofs.Following.{followed_by, not_followed}
@@ -18,7 +18,7 @@ returns-in-Ok-clause-step c = λ s stands holds.
     let next = c.in-Ok.next in
     let at : slice_get k.logs c.args.log ≡ Some x =
     ap (λ (logs : List Log). slice_get logs c.args.log) (sym c.reserve.ensures.items) ∙ reads c.reserve.new.self.items c.args.log x c.in-Some.ensures.item.3.0 c.in-Some.ensures.value in
-    let long = AllZip-long (IsLogOf k.clock) k.logs s.slots here.logs in (
+    let long = AllZip-long (IsLogOf k.clock) k.logs (numbered s) here.logs in (
       omega (arith, c.len-number.ensures, ap length c.reserve.ensures.items, long),
       subst (λ (logs : List Log). StepsToNext s c.args.log (record k { logs = logs }))
           (sym (c.push_reserved.ensures.items ∙ ap (λ (logs : List Log). slice_set logs c.args.log after ++ next ∷ []) c.reserve.ensures.items))

@@ -1,4 +1,4 @@
-use Rattle.std.proofs.Common.{◌≡◌, inl, inr, List, refl, sym, ap, ◌∙◌, subst}
+use Rattle.std.proofs.Common.{inr, List, refl, sym, ap, ◌∙◌, subst}
 use Rattle.std.proofs.lemmas.Bool.{false≢true}
 use Rattle.mt_keeper.specs.declared.keeper.Stage.TheVariants.{Going}
 use Rattle.mt_keeper.specs.declared.keeper.Log.{Log}

@@ -1,4 +1,4 @@
-use Rattle.std.proofs.Common.{◌≡◌, sym, ap, ◌∙◌, subst}
+use Rattle.std.proofs.Common.{sym, ap, ◌∙◌, subst}
 use Rattle.mt_keeper.specs.contracts.keeper.Keeper.{the_view}
 use Rattle.mt_keeper.specs.Keeping.{Keeping, Holds, IsReading}
 use Rattle.mt_keeper.proofs.Making.{ended_as}

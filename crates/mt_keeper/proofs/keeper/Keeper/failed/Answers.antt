@@ -8,6 +8,7 @@ returns-clause-kept c = λ s holds.
       clock = here.clock;
       acked = here.acked;
       base = here.base;
+      numbers = here.numbers;
       logs = here.logs;
       places = here.places;
       checkpoints = here.checkpoints;

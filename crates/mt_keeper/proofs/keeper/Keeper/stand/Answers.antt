@@ -1,9 +1,6 @@
-use Rattle.std.proofs.Common.{◌≡◌, Option, None, Some, ℕ, sym, ap, ◌∙◌, subst}
-use Rattle.std.proofs.lemmas.Option.{same_Some}
-use Rattle.mt_keeper.specs.declared.keeper.Making.{Making}
+use Rattle.std.proofs.Common.{sym, subst}
 use Rattle.mt_keeper.specs.contracts.keeper.Keeper.{the_view}
-use Rattle.mt_keeper.specs.Keeping.{Keeping, Holds, HasRead}
-use Rattle.mt_keeper.specs.Calling.{Steps, standing_on}
+use Rattle.mt_keeper.specs.Keeping.{Keeping, Holds}
 use Rattle.mt_keeper.proofs.Making.{stood_as}
 use Rattle.mt_keeper.proofs.keeper.Keeper.stand.Goals as goal
 

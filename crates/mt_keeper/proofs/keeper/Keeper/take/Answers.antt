@@ -1,10 +1,9 @@
-use Rattle.std.proofs.Common.{◌≡◌, inl, inr, ◌≤◌, ◌++◌, List, Some, refl, sym, ap, ◌∙◌, subst, arith}
+use Rattle.std.proofs.Common.{◌≡◌, inl, inr, ◌++◌, List, refl, sym, ap, ◌∙◌, subst, arith}
 use Rattle.mt_record.specs.Logs.{log_bytes}
 use Rattle.mt_writer.specs.Files.{file_bytes}
 use Rattle.std.proofs.lemmas.Bool.{false≢true}
-use Rattle.mt_writer.specs.Journals.{Journal, Keeps, file_of, handed_out, taking}
-use Rattle.mt_laws.specs.Writing.{Slot, writing, hand_out}
-use Rattle.mt_keeper.specs.declared.keeper.Stage.{Stage}
+use Rattle.mt_writer.specs.Journals.{Journal, file_of, handed_out, taking}
+use Rattle.mt_laws.specs.Writing.{hand_out}
 use Rattle.mt_keeper.specs.declared.keeper.Log.{Log}
 use Rattle.mt_keeper.specs.contracts.keeper.Keeper.{the_view}
 use Rattle.mt_keeper.specs.Keeping.{Keeping, Holds}
