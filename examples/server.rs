@@ -1,243 +1,200 @@
-//! A key-value server in memory that keeps what it acknowledged, by the duties of docs/DURABILITY.md: server.c in Rust.
+//! A key-value server in memory that keeps what it acknowledged, over `mtrecover::host`: server.c in Rust.
 //!
-//!     server DIR [BUSY]
+//!     server DIR SOCKET LOGS SEGMENT CHECKPOINT
 //!
-//! Each of four workers has a log in the folder DIR. The first BUSY of them, by default all, put random keys, as clients
-//! might ask for it; the others are idle. Kill the server at any moment, and start it again over the same folder. It prints
+//! The folder DIR has LOGS logs, in segments of about SEGMENT bytes; a checkpoint is made once CHECKPOINT bytes of logs were
+//! written. Clients connect to SOCKET, and ask line by line:
 //!
-//!     has KEY VALUE            a key that it recovered
-//!     put KEY VERSION VALUE    an update that was made
-//!     ack KEY VERSION VALUE    the update is durable, so its client may be told
+//!     set KEY VALUE    put KEY VERSION VALUE    the update is made
+//!                      ack KEY VERSION VALUE    it is durable
+//!     del KEY          likewise, with the VALUE -
+//!     get KEY          has KEY VALUE            with the VALUE - if there is none
+//!     range KEY N      has KEY VALUE            the first N keys from KEY on that have a value
+//!                      end
 //!
-//! A value is the number of the worker that wrote it, and the timestamp. The server makes no checkpoint and deletes no log,
-//! so each start reads all that was ever written. It does not start beside another server, nor over logs or parts that are
-//! not its own.
-use mtrecover::records::{self, Column, Format};
-use std::collections::HashMap;
+//! What it shows is durable too. Kill it at any moment, and start it again over the same folder. It prints `ready` once it
+//! listens. SIGTERM ends it after the requests that are under way.
+use mtrecover::host::{self, Host, HostError, Part, Settings};
+use mtrecover::records::Column;
+use mtrecover::Store;
+use std::collections::BTreeMap;
 use std::error::Error;
-use std::fs::{self, File, Permissions};
-use std::hash::{BuildHasher, RandomState};
-use std::io::{self, ErrorKind, Read, Write};
-use std::os::fd::AsRawFd;
-use std::path::Path;
-use std::sync::Mutex;
-use std::time::Duration;
-use std::{env, process, thread};
+use std::fs::{self, File};
+use std::io::{self, BufRead, BufReader, Write};
+use std::ops::Bound;
+use std::os::fd::OwnedFd;
+use std::os::unix::net::UnixListener;
+use std::sync::{Arc, Mutex, RwLock};
+use std::{env, iter, process, ptr, thread};
 
-/// A folder keeps its number of workers: a log without one would hold the cutoff back.
-const WORKERS: usize = 4;
-const KEYS: u64 = 100;
-/// The most updates of a round, and the most of a worker that are not yet durable.
-const ROUND: u64 = 4;
-const WAITING: usize = 64;
+type Outcome<T> = Result<T, Box<dyn Error + Send + Sync>>;
 
-/// What `flock` does: it locks for this process alone, or fails at once.
-const ALONE_AT_ONCE: i32 = 2 | 4;
+/// Ends the server if this failed.
+fn must<T, E: std::fmt::Display>(result: Result<T, E>) -> T {
+    result.unwrap_or_else(|error| {
+        eprintln!("server: {error}");
+        process::exit(1)
+    })
+}
+
+/// What a key has that ever had a value. The value is empty if there is none any more.
+#[derive(Clone, Default)]
+struct Entry {
+    value: String,
+    version: u64,
+}
+
+impl Entry {
+    fn columns(&self) -> [Column<'_>; 1] {
+        [Column::new(0, self.value.as_bytes())]
+    }
+
+    fn shown(&self) -> &str {
+        Some(&*self.value).filter(|value| !value.is_empty()).unwrap_or("-")
+    }
+}
+
+struct Table(Mutex<BTreeMap<String, Entry>>);
+
+impl Table {
+    /// The recovered store. No key has a version above this one.
+    fn of(store: Option<&Store>, version: u64) -> Outcome<Table> {
+        let mut table = BTreeMap::new();
+        for mut pair in store.iter().flat_map(|store| store.pairs(b"")) {
+            let value = String::from_utf8(pair.columns.swap_remove(0).1)?;
+            table.insert(String::from_utf8(pair.key)?, Entry { value, version });
+        }
+        Ok(Table(Mutex::new(table)))
+    }
+
+    /// Returns the first key within the bound, with its entry, in one step.
+    fn find(&self, from: Bound<&str>) -> Option<(String, Entry)> {
+        let table = self.0.lock().unwrap();
+        let (key, entry) = table.range::<str, _>((from, Bound::Unbounded)).next()?;
+        Some((key.clone(), entry.clone()))
+    }
+
+    /// Returns the keys from this one on, each with its entry as it is when its turn comes.
+    fn entries<'t>(&'t self, start: &str) -> impl Iterator<Item = (String, Entry)> + 't {
+        let first = self.find(Bound::Included(start));
+        iter::successors(first, |(key, _)| self.find(Bound::Excluded(key)))
+    }
+
+    /// Gives a checkpoint each key that has a value.
+    fn checkpoint(&self, part: &mut Part) -> Result<(), HostError> {
+        let mut entries = self.entries("").filter(|(_, entry)| !entry.value.is_empty());
+        entries.try_for_each(|(key, entry)| part.entry(entry.version, key.as_bytes(), &entry.columns()))
+    }
+
+    /// Sets the key to the value, or removes it if that is empty, in one step with the record in a log.
+    fn update(&self, host: &Host, log: usize, key: &str, value: &str) -> Entry {
+        let mut table = self.0.lock().unwrap();
+        let mut entry = Entry { value: value.to_string(), version: 0 };
+        entry.version = must(match value {
+            "" => host.remove(log, key.as_bytes()),
+            _ => host.put(log, key.as_bytes(), &entry.columns()),
+        });
+        table.insert(key.to_string(), entry.clone());
+        entry
+    }
+}
+
+/// A client, and the log of its updates.
+struct Client<'s> {
+    socket: File,
+    log: usize,
+    table: &'s Table,
+}
+
+impl Client<'_> {
+    /// Tells a line by one call.
+    fn tell(&mut self, line: String) -> Outcome<()> {
+        let count = self.socket.write(line.as_bytes())?;
+        (count == line.len()).then_some(()).ok_or_else(|| "a short write".into())
+    }
+
+    fn answer(&mut self, host: &Host, line: &str) -> Outcome<()> {
+        match line.split_whitespace().collect::<Vec<_>>()[..] {
+            ["set", key, value] if line.len() < 512 => self.update(host, key, value),
+            ["del", key] if line.len() < 512 => self.update(host, key, ""),
+            ["get", key] => {
+                let found = self.table.find(Bound::Included(key)).filter(|(found, _)| found == key);
+                let entry = found.unwrap_or_default().1;
+                must(host.wait(entry.version));
+                self.tell(format!("has {key} {}\n", entry.shown()))
+            }
+            ["range", key, n] => self.range(host, key, n.parse()?),
+            _ => self.tell("wrong\n".to_string()),
+        }
+    }
+
+    fn update(&mut self, host: &Host, key: &str, value: &str) -> Outcome<()> {
+        let entry = self.table.update(host, self.log, key, value);
+        let told = format!("{key} {} {}\n", entry.version, entry.shown());
+        self.tell(format!("put {told}"))?;
+        must(host.wait(entry.version));
+        self.tell(format!("ack {told}"))
+    }
+
+    /// Shows n keys that have a value. That a key has none any more must be durable too.
+    fn range(&mut self, host: &Host, start: &str, n: usize) -> Outcome<()> {
+        let durable = self.table.entries(start).inspect(|(_, entry)| must(host.wait(entry.version)));
+        for (key, entry) in durable.filter(|(_, entry)| !entry.value.is_empty()).take(n) {
+            self.tell(format!("has {key} {}\n", entry.value))?;
+        }
+        self.tell("end\n".to_string())
+    }
+
+    /// Serves the client until it goes, or the host is closed.
+    fn serve(&mut self, host: &RwLock<Option<Host>>) -> Outcome<()> {
+        for line in BufReader::new(self.socket.try_clone()?).lines() {
+            match (line?, &*host.read().unwrap()) {
+                (line, Some(host)) => self.answer(host, &line)?,
+                (_, None) => break,
+            }
+        }
+        Ok(())
+    }
+}
 
 extern "C" {
-    fn flock(file: i32, what: i32) -> i32;
+    fn sigemptyset(set: *mut [u64; 16]) -> i32;
+    fn sigaddset(set: *mut [u64; 16], signal: i32) -> i32;
+    fn pthread_sigmask(how: i32, set: *const [u64; 16], old: *mut [u64; 16]) -> i32;
+    fn sigwait(set: *const [u64; 16], signal: *mut i32) -> i32;
 }
 
-type Outcome<T> = Result<T, Box<dyn Error>>;
-
-/// A log that the last server left.
-struct Old {
-    bytes: Vec<u8>,
-    permissions: Permissions,
-}
-
-struct Update {
-    time: u64, // also its version
-    key: String,
-    value: String,
-}
-
-/// What the workers share.
-struct Shared {
-    now: u64,
-    table: HashMap<String, String>,
-    reach: [u64; WORKERS], // the timestamp of each worker's last synced record
-}
-
-struct Worker<'s> {
-    number: usize,
-    is_busy: bool,
-    log: File,
-    batch: Vec<u8>,       // records that are not yet in the log
-    waiting: Vec<Update>, // those that are not yet durable, oldest first
-    shared: &'s Mutex<Shared>,
-}
-
-/// Prints a line by one call, so that a kill leaves all of it or nothing.
-fn say(line: String) -> io::Result<()> {
-    io::stdout().write_all(line.as_bytes())
-}
-
-/// Returns a number below the limit.
-fn random(limit: u64) -> u64 {
-    RandomState::new().hash_one(0) % limit
-}
-
-fn name_of(worker: usize) -> String {
-    format!("{worker}.mtl")
-}
-
-// ---- Recovery ----
-
-/// Locks the folder while it is open, and refuses logs and parts of others: this server would neither recover nor resume them.
-fn take_folder() -> Outcome<File> {
-    let folder = File::open(".")?;
-    // SAFETY: the call gets two numbers.
-    if unsafe { flock(folder.as_raw_fd(), ALONE_AT_ONCE) } != 0 {
-        return Err("the folder is locked".into());
-    }
-    for file in fs::read_dir(".")? {
-        let name = file?.file_name();
-        let counts = Path::new(&name).extension().is_some_and(|end| end == "mtl" || end == "mtc");
-        if counts && (0..WORKERS).all(|worker| name != name_of(worker).as_str()) {
-            return Err(format!("{} is of another server", name.to_string_lossy()).into());
-        }
-    }
-    Ok(folder)
-}
-
-/// Reads a worker's log, if it is there. It is synced first: no crash of the machine may take back what recovery reads.
-fn read_log(worker: usize) -> io::Result<Option<Old>> {
-    let mut file = match File::open(name_of(worker)) {
-        Err(error) if error.kind() == ErrorKind::NotFound => return Ok(None),
-        file => file?,
-    };
-    file.sync_all()?;
-    let mut bytes = Vec::new();
-    file.read_to_end(&mut bytes)?;
-    Ok(Some(Old { bytes, permissions: file.metadata()?.permissions() }))
-}
-
-/// Fills the table from these logs, and sets the clock. Returns the cutoff too. Without logs there is nothing, and all is 0.
-fn recover(logs: &[&[u8]]) -> Outcome<(u64, Shared)> {
-    let mut shared = Shared { now: 0, table: HashMap::new(), reach: [0; WORKERS] };
-    if logs.is_empty() {
-        return Ok((0, shared));
-    }
-    let store = mtrecover::recover(logs, &[])?;
-    let report = store.report();
-    // A first start that was interrupted leaves fewer logs, in which all timestamps are 0.
-    if logs.len() < WORKERS && report.last > 0 {
-        return Err("a log is missing".into());
-    }
-    if report.last == u64::MAX {
-        return Err("a log is ended".into());
-    }
-    for pair in store.range(..) {
-        let pair = pair?;
-        let (key, value) = (String::from_utf8(pair.key)?, String::from_utf8(pair.columns[0].1.clone())?);
-        say(format!("has {key} {value}\n"))?;
-        shared.table.insert(key, value);
-    }
-    shared.now = report.cutoff.max(report.version); // versions are timestamps
-    Ok((report.cutoff, shared))
-}
-
-/// Begins a worker's log: with what is below the cutoff in the old one, and a mark there. It takes its place whole, and keeps
-/// its mode.
-fn begin_log(worker: usize, old: Option<Old>, cutoff: u64) -> Outcome<File> {
-    let mut bytes = Vec::new();
-    let mut log = File::create("new")?;
-    if let Some(old) = old {
-        records::resume_log(&mut bytes, &old.bytes, cutoff)?;
-        log.set_permissions(old.permissions)?;
-    } else {
-        records::log_header(&mut bytes, Format::One, 0)?;
-        records::mark(&mut bytes, cutoff)?;
-    }
-    log.write_all(&bytes)?;
-    log.sync_all()?;
-    fs::rename("new", name_of(worker))?;
-    Ok(log)
-}
-
-// ---- Updates ----
-
-impl Worker<'_> {
-    /// Puts a random key into the table, and appends the record. The version is given with the change, so that versions rise
-    /// in the order of the changes.
-    fn update(&mut self) -> Outcome<()> {
-        let key = format!("key{}", random(KEYS));
-        let mut shared = self.shared.lock().unwrap();
-        shared.now += 1;
-        let time = shared.now;
-        let value = format!("{}.{time}", self.number);
-        shared.table.insert(key.clone(), value.clone());
-        drop(shared);
-        records::put(&mut self.batch, Format::One, time, time, key.as_bytes(), &[Column::new(0, value.as_bytes())])?;
-        say(format!("put {key} {time} {value}\n"))?;
-        self.waiting.push(Update { time, key, value });
-        Ok(())
-    }
-
-    /// Notes how far the worker's log reaches, and acknowledges its updates from before all logs' reach.
-    fn acknowledge(&mut self, reach: u64) -> Outcome<()> {
-        let mut shared = self.shared.lock().unwrap();
-        shared.reach[self.number] = reach;
-        let durable = shared.reach.into_iter().fold(reach, u64::min);
-        drop(shared);
-        let count = self.waiting.partition_point(|update| update.time < durable);
-        for Update { time, key, value } in self.waiting.drain(..count) {
-            say(format!("ack {key} {time} {value}\n"))?;
-        }
-        Ok(())
-    }
-
-    /// A round makes some updates, or none, and a mark beyond them, and syncs them together.
-    fn round(&mut self) -> Outcome<()> {
-        let updates = if self.is_busy { random(ROUND + 1) as usize } else { 0 };
-        for _ in 0..updates.min(WAITING - self.waiting.len()) {
-            self.update()?;
-        }
-        let mut shared = self.shared.lock().unwrap();
-        shared.now += 1;
-        let reach = shared.now;
-        drop(shared);
-        records::mark(&mut self.batch, reach)?;
-        self.log.write_all(&self.batch)?;
-        self.log.sync_all()?;
-        self.batch.clear();
-        self.acknowledge(reach)
-    }
-}
-
-/// Ends the server. It does not go on after a failed sync: only the disk knows what it has.
-fn end(error: Box<dyn Error>) {
-    eprintln!("server: {error}");
-    process::exit(1)
-}
-
-fn serve() -> Outcome<()> {
+fn run() -> Outcome<()> {
     let args: Vec<String> = env::args().collect();
-    env::set_current_dir(args.get(1).ok_or("DIR is missing")?)?;
-    let busy = args.get(2).map_or(Ok(WORKERS), |busy| busy.parse())?;
-    let folder = take_folder()?;
-    let old = (0..WORKERS).map(read_log).collect::<io::Result<Vec<_>>>()?;
-    folder.sync_all()?;
-    let (cutoff, shared) = recover(&old.iter().flatten().map(|old| old.bytes.as_slice()).collect::<Vec<_>>())?;
-    let shared = &Mutex::new(shared);
-    let mut workers = Vec::new();
-    for (number, old) in old.into_iter().enumerate() {
-        let log = begin_log(number, old, cutoff)?;
-        workers.push(Worker { number, is_busy: number < busy, log, batch: Vec::new(), waiting: Vec::new(), shared });
-    }
-    folder.sync_all()?;
-    thread::scope(|threads| {
-        for mut worker in workers {
-            threads.spawn(move || loop {
-                worker.round().unwrap_or_else(end);
-                thread::sleep(Duration::from_millis(1));
-            });
+    let [_, folder, socket, logs, segment, checkpoint] = &args[..] else {
+        return Err("usage: server DIR SOCKET LOGS SEGMENT CHECKPOINT".into());
+    };
+    let (mut ends, mut ended) = ([0; 16], 0);
+    // SAFETY: a set of signals has this size. SIGTERM (15) is blocked (0) before a thread starts.
+    unsafe { (sigemptyset(&mut ends), sigaddset(&mut ends, 15), pthread_sigmask(0, &ends, ptr::null_mut())) };
+    let logs = logs.parse()?;
+    let settings = Settings { folder: folder.into(), logs, segment: segment.parse()?, checkpoint: checkpoint.parse()? };
+    let opened = host::open(settings)?;
+    let table = Arc::new(Table::of(opened.store.as_ref(), opened.last)?);
+    let read = Arc::clone(&table);
+    // A request reads the host, so that it is closed under none.
+    let host = Arc::new(RwLock::new(Some(opened.start(move |part| read.checkpoint(part))?)));
+    let _ = fs::remove_file(socket);
+    let (listener, shared) = (UnixListener::bind(socket)?, Arc::clone(&host));
+    thread::Builder::new().spawn(move || {
+        for (number, client) in listener.incoming().flatten().enumerate() {
+            let (socket, table, host) = (File::from(OwnedFd::from(client)), Arc::clone(&table), Arc::clone(&shared));
+            let serve = move || Client { socket, log: number % logs, table: &table }.serve(&host);
+            let _ = thread::Builder::new().spawn(serve);
         }
-    });
-    Ok(())
+    })?;
+    writeln!(io::stdout(), "ready")?;
+    // SAFETY: as above.
+    unsafe { sigwait(&ends, &mut ended) };
+    let closing = host.write().unwrap().take();
+    Ok(closing.map_or(Ok(()), Host::close)?)
 }
 
 fn main() {
-    serve().unwrap_or_else(end)
+    must(run());
 }

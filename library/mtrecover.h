@@ -1,6 +1,6 @@
 /* Recovery of a store from logs and parts of checkpoints, which a server reads itself and feeds in chunks; its report,
- * its keys, and what replaces the logs; and records, parts and their headers, written to buffers of the server. What
- * each function promises is proved, given the duties below.
+ * its keys, and what replaces the logs; a keeper of the logs that a server writes; and records, parts and their headers,
+ * written to buffers of the server. What each function promises is proved, given the duties below.
  *
  * Each function but mtr_free and mtr_version answers a status: DONE, MEMORY, SHORT if it has `room`, or one that its
  * comment names. One that is given a place answers WRONG exactly for the reasons named there, and then nothing changed.
@@ -35,7 +35,10 @@ enum mtr_status {
     MTR_WRONG = 2,  /* an argument is not lawful, or a place does not hold what the call needs; nothing changed */
     MTR_ABSENT = 3, /* there is no such key, column, pair or item */
     MTR_SHORT = 4,  /* the buffer is too short, and *count is the number of bytes that it needs */
-    MTR_FAULT = 5   /* the bytes have a fault */
+    MTR_FAULT = 5,  /* the bytes have a fault */
+    MTR_EARLY = 6,  /* what the call waits for did not happen yet; nothing changed */
+    MTR_FULL = 7,   /* the log has no room, or no stamp or number is left; nothing changed */
+    MTR_FAILED = 8  /* a write or a sync failed; nothing changed */
 };
 
 /* A place for a value of the library. {0} is empty. */
@@ -202,7 +205,7 @@ uint32_t mtr_fault_text(const mtr_fault *fault, uint8_t *out, size_t room, size_
 
 /* What a library is. */
 typedef struct mtr_versions {
-    uint32_t library;     /* its version: 2 */
+    uint32_t library;     /* its version: 3 */
     uint32_t log_format;  /* the greatest format of logs that it knows: 3 */
     uint32_t part_format; /* the greatest format of parts that it knows: 2 */
 } mtr_versions;
@@ -218,6 +221,100 @@ typedef struct mtr_column {
         size_t length;
     } value;
 } mtr_column;
+
+/* A keeper of a server's logs, so that nothing that it acknowledged is lost in a crash (docs/DURABILITY.md; library/host.c
+ * is the host's half). It owns no file: it gives bytes, and is told what became of them. A server with threads calls it
+ * under a lock. A log is named by a number, which stays; each file of a worker's log, a segment, is a log of its own.
+ * WRONG: the place holds no keeper, or there is no log of this number in the state that the call needs. From the first
+ * mtr_keeper_failed on each call that would change the keeper answers FAILED, or ABSENT.
+ *
+ * Puts the keeper of an empty folder into the empty place. It has one log, of number 0, that is to be created, and until
+ * then no other. WRONG: the place is not empty. */
+uint32_t mtr_keeper_begin(mtr_place *keeper);
+
+/* Begins the log of a new worker, which is to be created. From then on acknowledgements wait for it. DONE: *log is its
+ * number. */
+uint32_t mtr_log_begin(mtr_place *keeper, size_t *log);
+
+/* Seals a log, and begins the next segment of its worker, which is to be created; *next is its number. EARLY: not all
+ * records of the log are synced. */
+uint32_t mtr_log_rotate(mtr_place *keeper, size_t log, size_t *next);
+
+/* The worker and the number of the segment that a log is, for its file's name. */
+uint32_t mtr_log_segment(mtr_place *keeper, size_t log, uint32_t *worker, uint32_t *segment);
+
+/* The bytes of a log that is to be created. Write them to a file of another name, sync it, rename it, and sync the folder.
+ * Then tell mtr_log_created, before which it takes no record. */
+uint32_t mtr_log_bytes(mtr_place *keeper, size_t log, uint8_t *out, size_t room, size_t *count);
+uint32_t mtr_log_created(mtr_place *keeper, size_t log);
+
+/* Appends a put, a remove or an erase. DONE: *stamp is its timestamp and its version, above all stamps before. So call it
+ * while no other update of the key is made. WRONG: also if no log of format 2 has the record. FULL: rotate the log. */
+uint32_t mtr_log_put(mtr_place *keeper, size_t log, const uint8_t *key, size_t key_length, const mtr_column *columns,
+                     size_t column_count, uint64_t *stamp);
+uint32_t mtr_log_remove(mtr_place *keeper, size_t log, const uint8_t *key, size_t key_length, uint64_t *stamp);
+uint32_t mtr_log_erase(mtr_place *keeper, size_t log, const uint8_t *key, size_t key_length, const uint8_t *numbers,
+                       size_t number_count, uint64_t *stamp);
+
+/* Appends a mark beyond all stamps: once each log has synced one, all updates before may be acknowledged. */
+uint32_t mtr_log_mark(mtr_place *keeper, size_t log);
+
+/* Bytes of a place, lent until the next call that is given the place. */
+typedef struct mtr_lent {
+    const uint8_t *at;
+    size_t length;
+} mtr_lent;
+
+/* Takes all that was appended to the log since the last call, to be appended to its file and synced. From then on `buffer`
+ * holds these bytes. EARLY: those of the last call are not synced. WRONG: also if `buffer` is not empty and holds no
+ * bytes. */
+uint32_t mtr_log_take(mtr_place *keeper, size_t log, mtr_place *buffer, mtr_lent *lent);
+
+/* Notes that all bytes taken of the log are in its file, which was synced since. */
+uint32_t mtr_log_synced(mtr_place *keeper, size_t log);
+
+/* Notes that a write or a sync failed. Restart the machine, and recover from its disk: a later sync may succeed although
+ * bytes are lost. */
+uint32_t mtr_keeper_failed(mtr_place *keeper);
+
+/* All updates with stamps below *below may be acknowledged, or shown. */
+uint32_t mtr_keeper_acknowledged(mtr_place *keeper, uint64_t *below);
+
+/* Begins a checkpoint. *number is that of its parts, and *begin its begin: both stand in their headers. Then read each key
+ * in one step, between its updates: the version of its entry is the stamp of its last update. EARLY: one is being made.
+ * FULL: no stamp or number is left. */
+uint32_t mtr_checkpoint_begin(mtr_place *keeper, uint32_t *number, uint64_t *begin);
+
+/* Notes that all keys are read. *end stands in the footers. Then sync the parts, rename them, and sync the folder.
+ * EARLY: no checkpoint is being read. */
+uint32_t mtr_checkpoint_end(mtr_place *keeper, uint64_t *end);
+
+/* Notes that the parts are there and the folder is synced: the server stands on this checkpoint. Then parts of earlier ones
+ * may be deleted. EARLY: no checkpoint was read, or some log is not synced past its end. */
+uint32_t mtr_checkpoint_stand(mtr_place *keeper);
+
+/* Gives up the checkpoint that is being made, if there is one. */
+uint32_t mtr_checkpoint_abandon(mtr_place *keeper);
+
+/* The next file that is to be deleted: a worker's lowest segment, without updates from the checkpoint's begin on. Delete
+ * it, sync the folder, and tell mtr_log_deleted. ABSENT: there is none. */
+uint32_t mtr_log_delete(mtr_place *keeper, size_t *log);
+uint32_t mtr_log_deleted(mtr_place *keeper, size_t log);
+
+/* Puts a keeper that goes on from this store into the empty place. It takes its logs, and no other call. All files
+ * are a keeper's. First sync them and the folder, and delete the parts of all checkpoints but the report's: a later
+ * recovery could choose another. `number` is the greatest number of a part that the folder had, or 0. WRONG: `keeper` is
+ * not empty, or `store` holds no store. */
+uint32_t mtr_keeper_resume(mtr_place *keeper, mtr_place *store, uint32_t number);
+
+/* Adds a log that the last server left: the bytes that mtr_resume_log gave, once they are the file's. DONE: *number is its
+ * number. WRONG: also if it is ended, or is a segment that was added, or the bytes are no log of format 2 or 3 that was
+ * resumed with the store's cutoff. */
+uint32_t mtr_keeper_add(mtr_place *keeper, const uint8_t *log, size_t length, size_t *number);
+
+/* Notes that all logs are added, and that all files and the folder are synced. From then on the newest segment of each
+ * worker is written. */
+uint32_t mtr_keeper_resumed(mtr_place *keeper);
 
 /* Each of the following functions writes one encoding. `format` is that of the file that it is for, whose header says it:
  *

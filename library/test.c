@@ -531,6 +531,147 @@ static void test_resume(void) {
                                    resumed.format == 3 && resumed.ended);
 }
 
+/* A keeper of one log that may be written. */
+static mtr_place example_keeper(void) {
+    mtr_place keeper = {0};
+    expect("a keeper", mtr_keeper_begin(&keeper) == MTR_DONE && mtr_log_created(&keeper, 0) == MTR_DONE);
+    return keeper;
+}
+
+/* Puts a column under a key into the log, and returns the stamp. */
+static uint64_t put_stamp(mtr_place *keeper, size_t log) {
+    mtr_column column = {0, {text("x"), 1}};
+    uint64_t stamp = 0;
+    expect("a put", mtr_log_put(keeper, log, text("a"), 1, &column, 1, &stamp) == MTR_DONE);
+    return stamp;
+}
+
+/* Writes all that was appended to the log, and a mark. */
+static void sync_log(mtr_place *keeper, size_t log) {
+    mtr_place buffer = {0};
+    mtr_lent lent;
+    expect("a mark", mtr_log_mark(keeper, log) == MTR_DONE);
+    expect("it is synced", mtr_log_take(keeper, log, &buffer, &lent) == MTR_DONE && mtr_log_synced(keeper, log) == MTR_DONE);
+    mtr_free(&buffer);
+}
+
+static void test_keeper(void) {
+    static const uint8_t first[] = "MTL3\0\0\0\0\0\0\0\0\0\0\0\0\0\0\0\0\0\0\0\x09\x03\0\0\0\0\0\0\0\x01\0\0\0\x09";
+    mtr_place keeper = {0};
+    uint8_t out[64];
+    uint64_t below = 0, stamp = 9;
+    uint32_t worker = 9, segment = 9;
+    size_t count = 0, log = 9;
+    expect("no keeper", mtr_log_mark(&keeper, 0) == MTR_WRONG && mtr_keeper_failed(&keeper) == MTR_WRONG);
+    expect("a keeper", mtr_keeper_begin(&keeper) == MTR_DONE && mtr_keeper_begin(&keeper) == MTR_WRONG);
+    expect("its log is to be created", mtr_log_bytes(&keeper, 0, out, sizeof out, &count) == MTR_DONE &&
+                                           count == sizeof first - 1 && memcmp(out, first, count) == 0);
+    expect("its segment", mtr_log_segment(&keeper, 0, &worker, &segment) == MTR_DONE && worker == 0 && segment == 0);
+    expect("no record yet", mtr_log_remove(&keeper, 0, text("a"), 1, &stamp) == MTR_WRONG && stamp == 9);
+    expect("no second log yet", mtr_log_begin(&keeper, &log) == MTR_WRONG && log == 9);
+    expect("it is created", mtr_log_created(&keeper, 1) == MTR_WRONG && mtr_log_created(&keeper, 0) == MTR_DONE &&
+                                mtr_log_created(&keeper, 0) == MTR_WRONG);
+    expect("no bytes any more", mtr_log_bytes(&keeper, 0, out, sizeof out, &count) == MTR_WRONG);
+    expect("stamps", put_stamp(&keeper, 0) == 2 && mtr_log_remove(&keeper, 0, text("a"), 1, &stamp) == MTR_DONE && stamp == 3);
+    expect("no such log", mtr_log_mark(&keeper, 1) == MTR_WRONG);
+    expect("nothing is synced", mtr_keeper_acknowledged(&keeper, &below) == MTR_DONE && below == 1);
+    sync_log(&keeper, 0);
+    expect("all is synced", mtr_keeper_acknowledged(&keeper, &below) == MTR_DONE && below == 4);
+    expect("a second log", mtr_log_begin(&keeper, &log) == MTR_DONE && log == 1 && put_stamp(&keeper, 0) == 4);
+    sync_log(&keeper, 0);
+    expect("it holds back", mtr_keeper_acknowledged(&keeper, &below) == MTR_DONE && below == 4);
+    expect("a failure", mtr_keeper_failed(&keeper) == MTR_DONE && mtr_log_mark(&keeper, 0) == MTR_FAILED);
+    mtr_free(&keeper);
+    expect("it is freed", blocks == 0);
+}
+
+/* What is taken is lent until the next call with its place. */
+static void test_take(void) {
+    mtr_place keeper = example_keeper(), buffer = {0}, other = {0};
+    mtr_lent lent = {NULL, 0};
+    uint8_t number = 0;
+    uint64_t stamp = 0;
+    size_t count = 0;
+    mtr_column column = {0, {text("x"), 1}};
+    put_stamp(&keeper, 0);
+    expect("an erase", mtr_log_erase(&keeper, 0, text("b"), 1, &number, 1, &stamp) == MTR_DONE && stamp == 3);
+    length = 0;
+    append(mtr_put(3, 2, 2, text("a"), 1, &column, 1, rest(), room(), &count), &count, 33);
+    append(mtr_erase(3, 3, 3, text("b"), 1, &number, 1, rest(), room(), &count), &count, 30);
+    expect("no place for bytes", mtr_feed_log(&other) == MTR_DONE && mtr_log_take(&keeper, 0, &other, &lent) == MTR_WRONG);
+    mtr_free(&other);
+    expect("records", mtr_log_take(&keeper, 0, &buffer, &lent) == MTR_DONE && lent.length == length &&
+                          memcmp(lent.at, file, length) == 0);
+    put_stamp(&keeper, 0);
+    expect("one write at a time", mtr_log_take(&keeper, 0, &buffer, &lent) == MTR_EARLY &&
+                                      mtr_log_take(&keeper, 0, &other, &lent) == MTR_EARLY && !other.full);
+    expect("the bytes are as before", lent.length == length && memcmp(lent.at, file, length) == 0);
+    expect("the next ones", mtr_log_synced(&keeper, 0) == MTR_DONE &&
+                                mtr_log_take(&keeper, 0, &buffer, &lent) == MTR_DONE && lent.length == 33);
+    mtr_free(&buffer);
+    mtr_free(&keeper);
+    expect("all is freed", blocks == 0);
+}
+
+static void test_segments(void) {
+    mtr_place keeper = example_keeper();
+    uint32_t worker = 9, segment = 9, number = 0;
+    uint64_t begin = 0, end = 0;
+    size_t next = 9, old = 9;
+    put_stamp(&keeper, 0);
+    expect("it is not synced", mtr_log_rotate(&keeper, 0, &next) == MTR_EARLY && next == 9);
+    sync_log(&keeper, 0);
+    expect("the next one", mtr_log_rotate(&keeper, 0, &next) == MTR_DONE && next == 1);
+    expect("its name", mtr_log_segment(&keeper, 1, &worker, &segment) == MTR_DONE && worker == 0 && segment == 1);
+    expect("the old one takes nothing", mtr_log_mark(&keeper, 0) == MTR_WRONG && mtr_log_created(&keeper, 1) == MTR_DONE);
+    expect("nothing is old", mtr_log_delete(&keeper, &old) == MTR_ABSENT);
+    expect("no checkpoint", mtr_checkpoint_end(&keeper, &end) == MTR_EARLY && mtr_checkpoint_stand(&keeper) == MTR_EARLY);
+    expect("one", mtr_checkpoint_begin(&keeper, &number, &begin) == MTR_DONE && number == 1 && begin == 3);
+    expect("one at a time", mtr_checkpoint_begin(&keeper, &number, &begin) == MTR_EARLY);
+    expect("it is given up", mtr_checkpoint_abandon(&keeper) == MTR_DONE &&
+                                 mtr_checkpoint_begin(&keeper, &number, &begin) == MTR_DONE && number == 2 && begin == 4);
+    expect("it ends", put_stamp(&keeper, 1) == 5 && mtr_checkpoint_end(&keeper, &end) == MTR_DONE && end == 5);
+    expect("it waits for the log", mtr_checkpoint_stand(&keeper) == MTR_EARLY);
+    sync_log(&keeper, 1);
+    expect("it stands", mtr_checkpoint_stand(&keeper) == MTR_DONE);
+    expect("the old one goes", mtr_log_delete(&keeper, &old) == MTR_DONE && old == 0);
+    expect("it is gone", mtr_log_deleted(&keeper, 1) == MTR_WRONG && mtr_log_deleted(&keeper, 0) == MTR_DONE &&
+                             mtr_log_segment(&keeper, 0, &worker, &segment) == MTR_WRONG);
+    expect("no other one", mtr_log_delete(&keeper, &old) == MTR_ABSENT);
+    mtr_free(&keeper);
+    expect("all is freed", blocks == 0);
+}
+
+/* A keeper goes on with the log that an earlier one left. */
+static void test_restart(void) {
+    mtr_place keeper = {0}, store = {0};
+    mtr_column column = {0, {text("x"), 1}};
+    mtr_resumed resumed;
+    mtr_fault fault = {0};
+    uint8_t out[128];
+    uint32_t checkpoint = 0;
+    uint64_t begin = 0;
+    size_t count = 0, number = 9;
+    length = 0;
+    append(mtr_segment_header(0, 0, 0, rest(), room(), &count), &count, 20);
+    append(mtr_put(3, 2, 2, text("a"), 1, &column, 1, rest(), room(), &count), &count, 33);
+    append(mtr_mark(3, rest(), room(), &count), &count, 17);
+    expect("a store", add_bytes(&store, 0, file, length, 64) == MTR_DONE && mtr_recover(&store, &fault) == MTR_DONE);
+    expect("it goes on", mtr_keeper_resume(&keeper, &store, 4) == MTR_DONE &&
+                             mtr_keeper_resume(&keeper, &store, 4) == MTR_WRONG);
+    expect("what replaces the log", mtr_resume_log(file, length, 3, &resumed, out, sizeof out, &count) == MTR_DONE);
+    expect("no log", mtr_keeper_add(&keeper, text("x"), 1, &number) == MTR_WRONG && number == 9);
+    expect("its log", mtr_keeper_add(&keeper, out, count, &number) == MTR_DONE && number == 0);
+    expect("only once", mtr_keeper_add(&keeper, out, count, &number) == MTR_WRONG);
+    expect("no record yet", mtr_log_mark(&keeper, 0) == MTR_WRONG);
+    expect("it is written", mtr_keeper_resumed(&keeper) == MTR_DONE && mtr_keeper_resumed(&keeper) == MTR_WRONG);
+    expect("a stamp from the cutoff on", put_stamp(&keeper, 0) == 3);
+    expect("the next checkpoint", mtr_checkpoint_begin(&keeper, &checkpoint, &begin) == MTR_DONE && checkpoint == 5);
+    mtr_free(&keeper);
+    mtr_free(&store);
+    expect("all is freed", blocks == 0);
+}
+
 static int says(uint32_t kind, uint32_t what, uint64_t index, uint64_t record, const char *words) {
     mtr_fault fault = {kind, what, index, record};
     uint8_t out[64];
@@ -552,7 +693,7 @@ static void test_words(void) {
     fault.what = 1;
     expect("no record's", mtr_fault_text(&fault, out, sizeof out, &count) == MTR_WRONG);
     mtr_version(&versions);
-    expect("versions", versions.library == 2 && versions.log_format == 3 && versions.part_format == 2);
+    expect("versions", versions.library == 3 && versions.log_format == 3 && versions.part_format == 2);
 }
 
 static int is_fault(const mtr_fault *fault, uint32_t kind, uint32_t what, uint64_t index, uint64_t record) {
@@ -711,6 +852,10 @@ int main(int argc, char **argv) {
     test_dump_on();
     test_share();
     test_resume();
+    test_keeper();
+    test_take();
+    test_segments();
+    test_restart();
     test_words();
     test_faults();
     test_add_memory();

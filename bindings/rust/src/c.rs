@@ -11,6 +11,9 @@ pub const WRONG: u32 = 2;
 pub const ABSENT: u32 = 3;
 pub const SHORT: u32 = 4;
 pub const FAULT: u32 = 5;
+pub const EARLY: u32 = 6;
+pub const FULL: u32 = 7;
+pub const FAILED: u32 = 8;
 
 /// What `mtr_place` is in C.
 #[derive(Debug)]
@@ -92,6 +95,14 @@ pub struct RawVersions {
     pub library: u32,
     pub log_format: u32,
     pub part_format: u32,
+}
+
+/// Bytes of a place, lent until the next call that is given the place.
+#[repr(C)]
+#[derive(Clone, Copy)]
+pub struct RawLent {
+    pub at: *const u8,
+    pub length: usize,
 }
 
 /// A column to be written: its number and its value.
@@ -253,4 +264,44 @@ extern "C" {
         count: *mut usize,
     ) -> u32;
     pub fn mtr_part_footer(end: u64, entries: u32, out: *mut u8, room: usize, count: *mut usize) -> u32;
+    pub fn mtr_keeper_begin(keeper: *mut RawPlace) -> u32;
+    pub fn mtr_keeper_failed(keeper: *mut RawPlace) -> u32;
+    pub fn mtr_keeper_acknowledged(keeper: *mut RawPlace, below: *mut u64) -> u32;
+    pub fn mtr_keeper_resume(keeper: *mut RawPlace, store: *mut RawPlace, number: u32) -> u32;
+    pub fn mtr_keeper_add(keeper: *mut RawPlace, log: *const u8, length: usize, number: *mut usize) -> u32;
+    pub fn mtr_keeper_resumed(keeper: *mut RawPlace) -> u32;
+    pub fn mtr_log_begin(keeper: *mut RawPlace, log: *mut usize) -> u32;
+    pub fn mtr_log_rotate(keeper: *mut RawPlace, log: usize, next: *mut usize) -> u32;
+    pub fn mtr_log_segment(keeper: *mut RawPlace, log: usize, worker: *mut u32, segment: *mut u32) -> u32;
+    pub fn mtr_log_bytes(keeper: *mut RawPlace, log: usize, out: *mut u8, room: usize, count: *mut usize) -> u32;
+    pub fn mtr_log_created(keeper: *mut RawPlace, log: usize) -> u32;
+    pub fn mtr_log_put(
+        keeper: *mut RawPlace,
+        log: usize,
+        key: *const u8,
+        key_length: usize,
+        columns: *const Column,
+        column_count: usize,
+        stamp: *mut u64,
+    ) -> u32;
+    pub fn mtr_log_remove(keeper: *mut RawPlace, log: usize, key: *const u8, key_length: usize, stamp: *mut u64)
+        -> u32;
+    pub fn mtr_log_erase(
+        keeper: *mut RawPlace,
+        log: usize,
+        key: *const u8,
+        key_length: usize,
+        numbers: *const u8,
+        number_count: usize,
+        stamp: *mut u64,
+    ) -> u32;
+    pub fn mtr_log_mark(keeper: *mut RawPlace, log: usize) -> u32;
+    pub fn mtr_log_take(keeper: *mut RawPlace, log: usize, buffer: *mut RawPlace, lent: *mut RawLent) -> u32;
+    pub fn mtr_log_synced(keeper: *mut RawPlace, log: usize) -> u32;
+    pub fn mtr_log_delete(keeper: *mut RawPlace, log: *mut usize) -> u32;
+    pub fn mtr_log_deleted(keeper: *mut RawPlace, log: usize) -> u32;
+    pub fn mtr_checkpoint_begin(keeper: *mut RawPlace, number: *mut u32, begin: *mut u64) -> u32;
+    pub fn mtr_checkpoint_end(keeper: *mut RawPlace, end: *mut u64) -> u32;
+    pub fn mtr_checkpoint_stand(keeper: *mut RawPlace) -> u32;
+    pub fn mtr_checkpoint_abandon(keeper: *mut RawPlace) -> u32;
 }

@@ -5,7 +5,8 @@
 //!
 //! A [`Feed`] takes the bytes of a log or part, [`Inputs`] takes the feeds, and [`Inputs::recover`] makes the [`Store`], or
 //! [`Inputs::recover_by`] on threads of the caller.
-//! [`recover`] does all of it from memory. [`records`] writes logs and parts.
+//! [`recover`] does all of it from memory. [`records`] writes logs and parts. A [`Keeper`] keeps the logs of a server that
+//! runs, and a [`host`] has the files and threads for that.
 //!
 //! ```
 //! use mtrecover::records::{self, Column, Format};
@@ -25,7 +26,7 @@
 //! ```
 //!
 //! What the library itself allocates is refused by an error if there is no memory. The `Vec`s that calls return, and
-//! [`Clone`], take memory as Rust's own do. No call starts a thread, waits, prints or keeps state.
+//! [`Clone`], take memory as Rust's own do. Outside [`host`] no call starts a thread, waits, prints or keeps state.
 
 #![no_std]
 #![warn(missing_debug_implementations)]
@@ -34,13 +35,17 @@ extern crate alloc;
 
 mod c;
 mod fault;
+#[cfg(feature = "host")]
+pub mod host;
 mod inputs;
+pub mod keeper;
 mod pairs;
 pub mod records;
 mod store;
 
 pub use fault::{Error, Fault, OutOfMemory, What, WriteError};
 pub use inputs::{recover, Feed, Inputs, Task};
+pub use keeper::{Buffer, Keeper, KeeperError};
 pub use pairs::Walk;
 pub use store::{Pair, Pairs, Report, Store};
 

@@ -258,5 +258,5 @@ fn an_ended_log_says_so() {
 #[test]
 fn the_library_tells_its_version() {
     let version = mtrecover::version();
-    assert_eq!((version.library, version.log_format, version.part_format), (2, 3, 2));
+    assert_eq!((version.library, version.log_format, version.part_format), (3, 3, 2));
 }

@@ -6,6 +6,7 @@ pub mod Formats
 pub mod Owning
 pub mod Holding
 pub mod Jobs
+pub mod Keepers
 pub mod Lends
 pub mod Ranges
 pub mod Reports

@@ -3,6 +3,7 @@ use crate::feeds::{FedLog, FedPart};
 use crate::inputs::Inputs;
 use crate::job::Job;
 use crate::task::Worker;
+use mt_keeper::{First, Keeper, Restart};
 use mt_recover::{Hit, Recovered};
 use std::sync::Arc;
 
@@ -23,4 +24,12 @@ pub enum Held {
     Store(Arc<Recovered>),
     /// Pairs of a store.
     Hits(Vec<Hit>),
+    /// The first log of an empty folder, which is to be created.
+    First(First),
+    /// The logs of a keeper that goes on after a crash.
+    Restart(Restart),
+    /// A keeper of logs.
+    Keeper(Keeper),
+    /// Bytes that were taken of a log.
+    Bytes(Vec<u8>),
 }

@@ -17,3 +17,12 @@ pub const SHORT: u32 = 4;
 
 /// The bytes have a fault.
 pub const FAULT: u32 = 5;
+
+/// What the call waits for did not happen yet.
+pub const EARLY: u32 = 6;
+
+/// The log has no room, or no stamp or number is left.
+pub const FULL: u32 = 7;
+
+/// A write or a sync failed.
+pub const FAILED: u32 = 8;

@@ -12,7 +12,7 @@ use crate::status::{MEMORY, WRONG};
 use std::alloc::Global;
 
 /// The version of the library.
-const LIBRARY: u32 = 2;
+const LIBRARY: u32 = 3;
 
 /// The greatest format of logs.
 const LOG_FORMAT: u32 = 3;
@@ -35,7 +35,7 @@ pub struct Versions {
 /// Tells the versions of the library.
 #[unsafe(no_mangle)]
 pub extern "C" fn mtr_version(versions: &mut Versions)
-    ensures { versions.new ≡ record { library = 2; log_format = 3; part_format = 2 } }
+    ensures { versions.new ≡ record { library = 3; log_format = 3; part_format = 2 } }
 {
     *versions = Versions {
         library: LIBRARY,

@@ -5,6 +5,7 @@ use base.Shift.{Keyless}
 use denote.Memory.{lone}
 use denote.RawPtr.{Ptr}
 use denote.Param.Send.{IsSend, IsSync, owning_send, struct_send, sendable}
+use denote.Param.SendFields.{declared_send, variants_send}
 use denote.Builtin.{RawPtr}
 use denote.Struct.Struct.{exits_of}
 use denote.Struct.Owning.{shape, fields, to}
@@ -26,10 +27,14 @@ use Rattle.mt_recover.specs.contracts.replaying.Base as common
 use Rattle.mt_recover.specs.contracts.replaying.ReplayTask as replay
 use Rattle.mt_recover.specs.contracts.replaying.Replaying as replaying
 use Rattle.mt_recover.proofs.Sending.{replayed_send}
+use Rattle.mt_keeper.proofs.first.First.TheSendSync as first
+use Rattle.mt_keeper.proofs.resuming.Restart.TheSendSync as restart
+use Rattle.mt_keeper.proofs.keeper.Keeper.TheSendSync as keeper
 use Rattle.mt_c.specs.contracts.feeds.FedLog as log
 use Rattle.mt_c.specs.contracts.feeds.FedPart as part
 use Rattle.mt_c.specs.contracts.inputs.Inputs as inputs
 use Rattle.mt_c.specs.contracts.task.Task as task
+use Rattle.mt_c.specs.contracts.task.Worker as worker
 use Rattle.mt_c.specs.contracts.job.Job as job
 use Rattle.mt_c.specs.contracts.held.Held as held
 use Rattle.mt_c.specs.contracts.place.Handle.{the_row, the_type}
@@ -79,8 +84,44 @@ task_send = search (sendable, crosses, divide_send, divided_send, replay_send, r
 job_send : IsSend job.the_row
 job_send = search (sendable, crosses, dividing_send, replaying_send, task_send) depth 20 fits 20000
 
+worker_send : IsSend worker.the_row
+worker_send = declared_send worker.the_type (search (sendable, crosses), (task_send, tt))
+
 held_send : IsSend held.the_row
-held_send = search (sendable, crosses, log_send, part_send, inputs_send, job_send, divide_send, divided_send, replay_send, replayed_send, recovered_send, recovered_sync, hit_send) depth 20 fits 20000
+held_send = variants_send held.enum (
+  (search (sendable, crosses, log_send) depth 20, tt),
+  (
+    (search (sendable, crosses, part_send) depth 20, tt),
+    (
+      (inputs_send, tt),
+      (
+        (job_send, tt),
+        (
+          (worker_send, tt),
+          (
+            (search (sendable, crosses, recovered_send, recovered_sync) depth 20, tt),
+            (
+              (search (sendable, crosses, hit_send) depth 20, tt),
+              (
+                (first.the_send, tt),
+                (
+                  (restart.the_send, tt),
+                  (
+                    (keeper.the_send, tt),
+                    (
+                      (search (sendable, crosses) depth 20, tt),
+                      tt,
+                    ),
+                  ),
+                ),
+              ),
+            ),
+          ),
+        ),
+      ),
+    ),
+  ),
+)
 
 boxed : (p : Ptr) (value : Option (held.the_row).Denot) → Keyless (boxed_at (ghosts.dealloc_token heap) held.the_row p value)
 boxed p None = tt

@@ -1,0 +1,668 @@
+//! The host's half of a server's logs, over `std::fs`: `library/host.c` in Rust. Threads of the host write, sync, name and
+//! delete the files of a folder, while threads of a server put updates and wait for them. It is not proved; it is to be read.
+//! The folder has the files
+//!
+//! ```text
+//! WORKER-SEGMENT.mtl   a segment of a worker's log
+//! NUMBER-0.mtc         a checkpoint, which has one part
+//! NAME.new             a file that is not whole: it takes its name once it is synced
+//! ```
+//!
+//! One lock guards the keeper and all that threads share. It is free while a thread writes or syncs. After a failed write or
+//! sync nothing is acknowledged any more: only a restart of the machine shows what the disk has.
+
+extern crate std;
+
+use alloc::borrow::ToOwned;
+use alloc::format;
+use alloc::string::{String, ToString};
+use alloc::sync::Arc;
+use alloc::vec::Vec;
+use core::error::Error as StdError;
+use core::fmt::{self, Display, Formatter};
+use core::mem;
+use std::fs::{self, File, Permissions};
+use std::io::{self, Read, Write};
+use std::os::fd::AsRawFd;
+use std::path::PathBuf;
+use std::sync::{Condvar, Mutex, MutexGuard};
+use std::thread::{self, JoinHandle, Thread};
+
+use crate::keeper::{Buffer, Checkpoint, Keeper, KeeperError, Log, NewLog, Resuming, Segment};
+use crate::records::{self, Column, Format};
+use crate::{Feed, Inputs, OutOfMemory, Store};
+
+/// What a host works on.
+#[derive(Clone, Debug)]
+pub struct Settings {
+    pub folder: PathBuf,
+    /// This many threads write, each a log of its own.
+    pub logs: usize,
+    /// A log's file is followed by the next one from this size on.
+    pub segment: u64,
+    /// A checkpoint is made once this many bytes of logs were written.
+    pub checkpoint: u64,
+}
+
+/// What a host could not do, and why.
+#[derive(Clone, Debug, PartialEq, Eq)]
+pub struct HostError {
+    what: String,
+    why: String,
+}
+
+impl HostError {
+    pub fn new(what: &str, why: impl Display) -> HostError {
+        HostError { what: what.to_owned(), why: why.to_string() }
+    }
+}
+
+impl Display for HostError {
+    fn fmt(&self, f: &mut Formatter<'_>) -> fmt::Result {
+        write!(f, "{}: {}", self.what, self.why)
+    }
+}
+
+impl StdError for HostError {}
+
+/// Says what a call was for, if it fails.
+trait Of<T> {
+    fn of(self, what: &str) -> Result<T, HostError>;
+}
+
+impl<T, E: Display> Of<T> for Result<T, E> {
+    fn of(self, what: &str) -> Result<T, HostError> {
+        self.map_err(|why| HostError::new(what, why))
+    }
+}
+
+// ---- Files ----
+
+/// How many bytes of a checkpoint are written at once.
+const ROOM: usize = 1 << 20;
+
+fn name_of_log(segment: Segment) -> String {
+    format!("{}-{}.mtl", segment.worker, segment.number)
+}
+
+fn name_of_part(number: u32) -> String {
+    format!("{number}-0.mtc")
+}
+
+/// What `flock` does: it locks for this process alone, or fails at once.
+const ALONE_AT_ONCE: i32 = 2 | 4;
+
+extern "C" {
+    fn flock(file: i32, what: i32) -> i32;
+}
+
+/// The folder, which is locked while it is open.
+#[derive(Debug)]
+struct Folder {
+    path: PathBuf,
+    file: File,
+}
+
+/// What the folder has.
+struct Found {
+    logs: Vec<Segment>,
+    /// The checkpoints of its parts.
+    parts: Vec<u32>,
+}
+
+impl Folder {
+    fn open(path: PathBuf) -> Result<Folder, HostError> {
+        let name = path.display().to_string();
+        let file = File::open(&path).of(&name)?;
+        // SAFETY: the call gets two numbers.
+        if unsafe { flock(file.as_raw_fd(), ALONE_AT_ONCE) } != 0 {
+            let error = io::Error::last_os_error();
+            let is_locked = error.kind() == io::ErrorKind::WouldBlock;
+            return Err(if is_locked { HostError::new(&name, "is locked") } else { HostError::new(&name, error) });
+        }
+        Ok(Folder { path, file })
+    }
+
+    /// Finds the logs, in the order of their segments, and the parts.
+    fn find(&self) -> Result<Found, HostError> {
+        let mut found = Found { logs: Vec::new(), parts: Vec::new() };
+        for entry in fs::read_dir(&self.path).of("the folder")? {
+            let name = entry.of("the folder")?.file_name().to_string_lossy().into_owned();
+            let Some(stem) = name.strip_suffix(".mtl").or(name.strip_suffix(".mtc")) else {
+                continue;
+            };
+            let numbers = stem.split_once('-').and_then(|(one, other)| Some((one.parse().ok()?, other.parse().ok()?)));
+            match numbers {
+                Some((worker, number)) if name == name_of_log(Segment { worker, number }) => {
+                    found.logs.push(Segment { worker, number });
+                }
+                Some((number, _)) if name == name_of_part(number) => found.parts.push(number),
+                _ => return Err(HostError::new(&name, "is of another server")),
+            }
+        }
+        found.logs.sort();
+        found.parts.sort();
+        Ok(found)
+    }
+
+    /// Reads a file, once it is synced: no crash may take back what recovery reads.
+    fn read(&self, name: &str) -> Result<(Vec<u8>, Permissions), HostError> {
+        let mut bytes = Vec::new();
+        let mut file = File::open(self.path.join(name)).of(name)?;
+        file.sync_all().of(name)?;
+        file.read_to_end(&mut bytes).of(name)?;
+        Ok((bytes, file.metadata().of(name)?.permissions()))
+    }
+
+    /// Where the file NAME.new is.
+    fn new_path(&self, name: &str) -> PathBuf {
+        self.path.join(format!("{name}.new"))
+    }
+
+    /// Creates the file NAME.new.
+    fn create(&self, name: &str) -> Result<File, HostError> {
+        File::create(self.new_path(name)).of(name)
+    }
+
+    /// Gives the file NAME.new, which is whole, its name, which a crash takes back no more.
+    fn place(&self, file: &File, name: &str) -> Result<(), HostError> {
+        file.sync_all().of(name)?;
+        fs::rename(self.new_path(name), self.path.join(name)).of(name)?;
+        self.file.sync_all().of(name)
+    }
+
+    /// Deletes the file NAME.new. If that fails, it is in nobody's way.
+    fn discard(&self, name: &str) {
+        let _ = fs::remove_file(self.new_path(name));
+    }
+
+    /// Deletes a file, which a crash brings back no more.
+    fn delete(&self, name: &str) -> Result<(), HostError> {
+        fs::remove_file(self.path.join(name)).of(name)?;
+        self.file.sync_all().of(name)
+    }
+
+    /// Creates the file of a log.
+    fn create_log(&self, log: &NewLog) -> Result<File, HostError> {
+        let name = name_of_log(log.segment());
+        let mut file = self.create(&name)?;
+        file.write_all(log.bytes()).of(&name)?;
+        self.place(&file, &name)?;
+        Ok(file)
+    }
+}
+
+// ---- A start ----
+
+/// A host that has recovered its store, and has no thread.
+#[derive(Debug)]
+pub struct Opened {
+    /// What the folder had, if it had logs.
+    pub store: Option<Store>,
+    /// The last stamp: no recovered key has a greater version.
+    pub last: u64,
+    settings: Settings,
+    folder: Folder,
+    keeper: Keeper,
+    logs: Vec<(Log, File, u64)>,
+    /// The checkpoint on which the server stands.
+    standing: Option<u32>,
+}
+
+/// Opens a folder that no other server has open, and that hosts alone wrote, recovers its store, and makes the logs ready for
+/// more.
+pub fn open(settings: Settings) -> Result<Opened, HostError> {
+    let folder = Folder::open(settings.folder.clone())?;
+    let found = folder.find()?;
+    let is_empty = found.logs.is_empty() && found.parts.is_empty();
+    let mut opened = if is_empty { begin(settings, folder)? } else { go_on(settings, folder, found)? };
+    while opened.logs.len() < opened.settings.logs {
+        let new = opened.keeper.begin_log().of("a log")?;
+        opened.add(new)?;
+    }
+    Ok(opened)
+}
+
+fn begin(settings: Settings, folder: Folder) -> Result<Opened, HostError> {
+    let (keeper, first) = Keeper::begin().of("the keeper")?;
+    let mut opened = Opened { store: None, last: 0, settings, folder, keeper, logs: Vec::new(), standing: None };
+    opened.add(first)?;
+    Ok(opened)
+}
+
+/// A log that the last server left.
+struct Old {
+    segment: Segment,
+    bytes: Vec<u8>,
+    permissions: Permissions,
+}
+
+/// Whether a file has the name that its header says, since files are deleted by their names. One without a whole header is
+/// no log, and as a part is not chosen.
+fn is_own(bytes: &[u8], magic: &[u8], at: usize, number: &[u8]) -> bool {
+    bytes.len() < 20 || bytes.starts_with(magic) && bytes[at..].starts_with(number)
+}
+
+fn expect_own(is_own: bool, name: &str) -> Result<(), HostError> {
+    is_own.then_some(()).ok_or("it is not the file of this name").of(name)
+}
+
+/// Adds a log or a part to the inputs. Recovery tells what is wrong with its bytes.
+fn add(inputs: &mut Inputs, feed: Result<Feed, OutOfMemory>, bytes: &[u8]) -> Result<(), OutOfMemory> {
+    let mut feed = feed?;
+    feed.feed(bytes)?;
+    inputs.add(feed)
+}
+
+/// Recovers the store of what was found, and returns the logs too.
+fn recover(folder: &Folder, found: &Found) -> Result<(Store, Vec<Old>), HostError> {
+    let mut inputs = Inputs::new();
+    let mut logs = Vec::new();
+    for &segment in &found.logs {
+        let name = name_of_log(segment);
+        let (bytes, permissions) = folder.read(&name)?;
+        let numbers = [segment.worker.to_be_bytes(), segment.number.to_be_bytes()].concat();
+        expect_own(is_own(&bytes, b"MTL3", 12, &numbers), &name)?;
+        add(&mut inputs, Feed::log(), &bytes).of(&name)?;
+        logs.push(Old { segment, bytes, permissions });
+    }
+    for &number in &found.parts {
+        let name = name_of_part(number);
+        let (bytes, _) = folder.read(&name)?;
+        expect_own(is_own(&bytes, b"MTC", 4, &number.to_be_bytes()), &name)?;
+        add(&mut inputs, Feed::part(), &bytes).of(&name)?;
+    }
+    folder.file.sync_all().of("the folder")?;
+    Ok((inputs.recover().of("recovery")?, logs))
+}
+
+/// Replaces a log by what goes on, and adds it. Returns its file and size.
+fn resume(folder: &Folder, keeper: &mut Resuming, log: Old, cutoff: u64) -> Result<(File, u64), HostError> {
+    let name = name_of_log(log.segment);
+    let mut bytes = Vec::new();
+    records::resume_log(&mut bytes, &log.bytes, cutoff).of(&name)?;
+    let mut file = folder.create(&name)?;
+    file.set_permissions(log.permissions).of(&name)?;
+    file.write_all(&bytes).of(&name)?;
+    folder.place(&file, &name)?;
+    keeper.add(&bytes).of(&name)?;
+    Ok((file, bytes.len() as u64))
+}
+
+/// Goes on with what the last server left.
+fn go_on(settings: Settings, folder: Folder, found: Found) -> Result<Opened, HostError> {
+    let (store, old) = recover(&folder, &found)?;
+    let report = store.report();
+    let (chosen, others): (Vec<u32>, _) = found.parts.iter().partition(|&&n| report.checkpoint == Some(n.into()));
+    for number in others {
+        folder.delete(&name_of_part(number))?;
+    }
+    let mut resuming = Keeper::resume(&store, found.parts.last().copied().unwrap_or(0)).of("the keeper")?;
+    // Each worker's newest file.
+    let mut files: Vec<(u32, (File, u64))> = Vec::new();
+    for log in old {
+        let worker = log.segment.worker;
+        let file = resume(&folder, &mut resuming, log, report.cutoff)?;
+        if files.last().is_some_and(|(last, _)| *last == worker) {
+            files.pop();
+        }
+        files.push((worker, file));
+    }
+    let (keeper, logs) = resuming.finish().of("the keeper")?;
+    let logs = logs.into_iter().zip(files).map(|(log, (_, (file, size)))| (log, file, size)).collect();
+    let (store, last, standing) = (Some(store), report.cutoff.saturating_sub(1), chosen.first().copied());
+    Ok(Opened { store, last, settings, folder, keeper, logs, standing })
+}
+
+impl Opened {
+    /// Creates a log.
+    fn add(&mut self, new: NewLog) -> Result<(), HostError> {
+        let file = self.folder.create_log(&new)?;
+        self.logs.push((self.keeper.created(new).of("a log")?, file, 0));
+        Ok(())
+    }
+
+    /// Starts the threads, once the server has what it needs of the store. For each checkpoint `entries` gives
+    /// [`Part::entry`] each key that the server has, read after that call began; after an `Err` the checkpoint is given up.
+    pub fn start<E>(self, entries: E) -> Result<Host, HostError>
+    where
+        E: FnMut(&mut Part) -> Result<(), HostError> + Send + 'static,
+    {
+        let Opened { store: _, last, settings, folder, keeper, logs, standing } = self;
+        let below = keeper.acknowledged_below();
+        let mut state = State { keeper, logs: Vec::new(), last, below, written: 0, waiters: Vec::new(), failure: None, is_closing: false };
+        let mut writers = Vec::new();
+        for (log, file, size) in logs {
+            let buffer = Buffer::new();
+            writers.push(Writer { number: state.logs.len(), file, size, covered: last, buffer });
+            state.logs.push(Some(log));
+        }
+        let (work, done) = (Condvar::new(), Condvar::new());
+        let shared = Arc::new(Shared { settings, folder, state: Mutex::new(state), work, done });
+        let mut host = Host { shared, threads: Vec::new() };
+        for writer in writers {
+            host.spawn(move |shared| shared.write_log(writer))?;
+        }
+        host.spawn(move |shared| shared.write_checkpoints(standing, entries))?;
+        Ok(host)
+    }
+}
+
+// ---- A host ----
+
+/// A host whose threads write. It is closed when it is dropped.
+#[derive(Debug)]
+pub struct Host {
+    shared: Arc<Shared>,
+    threads: Vec<JoinHandle<()>>,
+}
+
+#[derive(Debug)]
+struct Shared {
+    settings: Settings,
+    folder: Folder,
+    state: Mutex<State>,
+    /// There may be something to write.
+    work: Condvar,
+    /// Something was synced, or a log takes records again, or the host failed or is closing.
+    done: Condvar,
+}
+
+/// What the lock guards.
+#[derive(Debug)]
+struct State {
+    keeper: Keeper,
+    /// The newest file of each worker's log. None: the next one follows, and until then no record is taken.
+    logs: Vec<Option<Log>>,
+    /// The last stamp.
+    last: u64,
+    /// Updates below it may be acknowledged.
+    below: u64,
+    /// The bytes of logs that were written since the last checkpoint began.
+    written: u64,
+    /// Threads that wait until the update with this stamp is durable.
+    waiters: Vec<(u64, Thread)>,
+    /// What failed first.
+    failure: Option<HostError>,
+    is_closing: bool,
+}
+
+impl Host {
+    fn spawn(&mut self, work: impl FnOnce(&Shared) -> Result<(), HostError> + Send + 'static) -> Result<(), HostError> {
+        let shared = Arc::clone(&self.shared);
+        let run = move || work(&shared).unwrap_or_else(|error| shared.fail(error));
+        self.threads.push(thread::Builder::new().spawn(run).of("a thread")?);
+        Ok(())
+    }
+
+    /// Appends a put of these columns, whose numbers rise, to one of the logs, and returns its stamp. Call it in one step with
+    /// the change of the server's own table, so that a key's stamps rise in the order of its changes.
+    pub fn put(&self, log: usize, key: &[u8], columns: &[Column]) -> Result<u64, KeeperError> {
+        self.update(log, |keeper, log| keeper.put(log, key, columns))
+    }
+
+    /// Appends a remove of the key, likewise.
+    pub fn remove(&self, log: usize, key: &[u8]) -> Result<u64, KeeperError> {
+        self.update(log, |keeper, log| keeper.remove(log, key))
+    }
+
+    /// Appends an erase of the columns with these numbers, which rise, likewise.
+    pub fn erase(&self, log: usize, key: &[u8], numbers: &[u8]) -> Result<u64, KeeperError> {
+        self.update(log, |keeper, log| keeper.erase(log, key, numbers))
+    }
+
+    fn update(
+        &self,
+        log: usize,
+        update: impl FnOnce(&mut Keeper, &Log) -> Result<u64, KeeperError>,
+    ) -> Result<u64, KeeperError> {
+        let mut state = self.shared.wait(&self.shared.done, |state| !matches!(state.logs.get(log), Some(None)));
+        let State { keeper, logs, last, .. } = &mut *state;
+        let log = logs.get(log).ok_or(KeeperError::NotLawful)?;
+        *last = update(keeper, log.as_ref().ok_or(KeeperError::Failed)?)?;
+        self.shared.work.notify_all();
+        Ok(*last)
+    }
+
+    /// Waits until the update with this stamp, and all before, may be acknowledged or shown. Err: the host failed, and it may
+    /// be lost. If that was a write or a sync, restart the machine before the folder is opened again.
+    pub fn wait(&self, stamp: u64) -> Result<(), HostError> {
+        let mut state = self.shared.lock();
+        while state.below <= stamp && state.failure.is_none() {
+            state.waiters.push((stamp, thread::current()));
+            drop(state);
+            thread::park();
+            state = self.shared.lock();
+        }
+        match &state.failure {
+            Some(failure) if state.below <= stamp => Err(failure.clone()),
+            _ => Ok(()),
+        }
+    }
+
+    /// Syncs what was put, and ends the threads. Err: the host failed before.
+    pub fn close(mut self) -> Result<(), HostError> {
+        self.end();
+        self.shared.lock().failure.take().map_or(Ok(()), Err)
+    }
+
+    fn end(&mut self) {
+        self.shared.lock().is_closing = true;
+        self.shared.work.notify_all();
+        self.shared.done.notify_all();
+        for thread in mem::take(&mut self.threads) {
+            if thread.join().is_err() {
+                self.shared.fail(HostError::new("a thread", "panicked"));
+            }
+        }
+    }
+}
+
+impl Drop for Host {
+    fn drop(&mut self) {
+        self.end();
+    }
+}
+
+impl Shared {
+    fn lock(&self) -> MutexGuard<'_, State> {
+        self.state.lock().unwrap()
+    }
+
+    /// Waits until this is so, or the host failed.
+    fn wait(&self, condition: &Condvar, is_so: impl Fn(&State) -> bool) -> MutexGuard<'_, State> {
+        condition.wait_while(self.lock(), |state| !is_so(state) && state.failure.is_none()).unwrap()
+    }
+
+    /// Tells all threads that wait what is so now.
+    fn tell(&self, state: &mut State) {
+        let State { below, waiters, failure, .. } = state;
+        waiters.retain(|(stamp, thread)| {
+            let waits = stamp >= below && failure.is_none();
+            if !waits {
+                thread.unpark();
+            }
+            waits
+        });
+        self.done.notify_all();
+    }
+
+    /// The host fails: nothing is acknowledged any more.
+    fn fail(&self, error: HostError) {
+        let mut state = self.lock();
+        state.keeper.failed();
+        state.failure.get_or_insert(error);
+        self.work.notify_all();
+        self.tell(&mut state);
+    }
+}
+
+// ---- Logs ----
+
+/// What the thread of a worker's log has.
+struct Writer {
+    /// Which one of the logs it is.
+    number: usize,
+    file: File,
+    size: u64,
+    /// The last stamp when the bytes that are synced were taken.
+    covered: u64,
+    buffer: Buffer,
+}
+
+impl Shared {
+    /// The thread of a log. Each update waits for all logs, so each log is synced after each.
+    fn write_log(&self, mut writer: Writer) -> Result<(), HostError> {
+        loop {
+            let state = self.wait(&self.work, |state| writer.covered < state.last || state.is_closing);
+            if state.failure.is_some() || writer.covered >= state.last {
+                return Ok(());
+            }
+            self.commit(&mut writer, state)?;
+        }
+    }
+
+    /// Writes and syncs all that was appended to the log, and a mark beyond it. If it is full, the next file follows.
+    fn commit(&self, writer: &mut Writer, mut state: MutexGuard<'_, State>) -> Result<(), HostError> {
+        let last = state.last;
+        let log = state.logs[writer.number].take().expect("its thread alone takes it");
+        state.keeper.mark(&log).of("a mark")?;
+        let taken = state.keeper.take(&log, &mut writer.buffer).of("records")?;
+        let full = if writer.size >= self.settings.segment {
+            Some(log)
+        } else {
+            state.logs[writer.number] = Some(log);
+            None
+        };
+        drop(state);
+        writer.file.write_all(&taken).of("a log")?;
+        writer.file.sync_data().of("a log")?;
+        let mut state = self.lock();
+        writer.covered = last;
+        writer.size += taken.len() as u64;
+        state.written += taken.len() as u64;
+        state.keeper.synced(taken).of("a sync")?;
+        state.below = state.keeper.acknowledged_below();
+        self.tell(&mut state);
+        drop(state);
+        full.map_or(Ok(()), |log| self.rotate(writer, log))
+    }
+
+    /// Begins the next file of the log.
+    fn rotate(&self, writer: &mut Writer, log: Log) -> Result<(), HostError> {
+        let new = self.lock().keeper.rotate(log).map_err(|(_, error)| error).of("a segment")?;
+        writer.file = self.folder.create_log(&new)?;
+        writer.size = 0;
+        let mut state = self.lock();
+        state.logs[writer.number] = Some(state.keeper.created(new).of("a segment")?);
+        self.done.notify_all();
+        Ok(())
+    }
+}
+
+// ---- Checkpoints ----
+
+/// A checkpoint in the making.
+#[derive(Debug)]
+pub struct Part {
+    file: File,
+    entries: u32,
+    bytes: Vec<u8>,
+    /// Whether an entry was not written.
+    is_lost: bool,
+}
+
+impl Part {
+    /// Writes the entry of a key: all columns that it has, whose numbers rise, read in one step with its version, the stamp of
+    /// its last update, or [`Opened::last`] if that was recovered. A key without columns has no entry. After an `Err` the
+    /// checkpoint is given up.
+    pub fn entry(&mut self, version: u64, key: &[u8], columns: &[Column]) -> Result<(), HostError> {
+        let written = self.append(version, key, columns);
+        self.is_lost |= written.is_err();
+        written
+    }
+
+    fn append(&mut self, version: u64, key: &[u8], columns: &[Column]) -> Result<(), HostError> {
+        records::entry(&mut self.bytes, Format::Two, version, key, columns).of("an entry")?;
+        self.entries = self.entries.checked_add(1).ok_or("too many").of("entries")?;
+        if self.bytes.len() >= ROOM {
+            self.flush()?;
+        }
+        Ok(())
+    }
+
+    fn flush(&mut self) -> Result<(), HostError> {
+        self.file.write_all(&self.bytes).of("a part")?;
+        self.bytes.clear();
+        Ok(())
+    }
+}
+
+impl Shared {
+    /// The thread of checkpoints.
+    fn write_checkpoints(
+        &self,
+        mut standing: Option<u32>,
+        mut entries: impl FnMut(&mut Part) -> Result<(), HostError>,
+    ) -> Result<(), HostError> {
+        loop {
+            let is_time = |state: &State| state.written >= self.settings.checkpoint;
+            let mut state = self.wait(&self.done, |state| is_time(state) || state.is_closing);
+            if state.failure.is_some() || state.is_closing {
+                return Ok(());
+            }
+            let checkpoint = state.keeper.begin_checkpoint().of("a checkpoint")?;
+            state.last = checkpoint.begin;
+            state.written = 0;
+            drop(state);
+            self.work.notify_all();
+            let name = name_of_part(checkpoint.number);
+            match self.make_part(&name, checkpoint, &mut entries) {
+                Ok((file, end)) => {
+                    self.folder.place(&file, &name)?;
+                    self.wait(&self.done, |state| state.below > end).keeper.stand().of("a checkpoint")?;
+                    self.delete_old(standing.replace(checkpoint.number))?;
+                }
+                Err(error) => {
+                    let _ = writeln!(io::stderr(), "host: {error}"); // the checkpoint is given up
+                    self.folder.discard(&name);
+                    self.lock().keeper.abandon_checkpoint().of("a checkpoint")?;
+                }
+            }
+        }
+    }
+
+    /// Writes the part of a checkpoint to the file NAME.new. Returns the file, and the checkpoint's end.
+    fn make_part(
+        &self,
+        name: &str,
+        checkpoint: Checkpoint,
+        entries: &mut impl FnMut(&mut Part) -> Result<(), HostError>,
+    ) -> Result<(File, u64), HostError> {
+        let mut part = Part { file: self.folder.create(name)?, entries: 0, bytes: Vec::new(), is_lost: false };
+        records::part_header(&mut part.bytes, Format::Two, checkpoint.number, checkpoint.begin, 0, 1).of("a part")?;
+        entries(&mut part)?;
+        if part.is_lost {
+            return Err(HostError::new(name, "lacks an entry"));
+        }
+        let end = self.lock().keeper.end_checkpoint().of("a checkpoint")?;
+        records::part_footer(&mut part.bytes, end, part.entries).of("a part")?;
+        part.flush()?;
+        Ok((part.file, end))
+    }
+
+    /// Deletes what the checkpoint on which the server stands makes old: the part before it, and segments.
+    fn delete_old(&self, older: Option<u32>) -> Result<(), HostError> {
+        if let Some(number) = older {
+            self.folder.delete(&name_of_part(number))?;
+        }
+        loop {
+            let old = self.lock().keeper.next_to_delete();
+            let Some(old) = old else {
+                return Ok(());
+            };
+            self.folder.delete(&name_of_log(old.segment()))?;
+            self.lock().keeper.deleted(old).of("a segment")?;
+        }
+    }
+}

@@ -1,0 +1,404 @@
+//! The keeper of a server's logs.
+
+use alloc::vec::Vec;
+use core::error::Error as StdError;
+use core::fmt::{self, Display, Formatter};
+use core::ops::Deref;
+use core::{ptr, slice};
+
+use crate::c::{self, Column, Place, RawLent};
+use crate::inputs::done;
+use crate::records::append;
+use crate::{OutOfMemory, Store};
+
+/// Keeps the logs of a server, so that a crash loses nothing that it acknowledged. It owns no file: it gives bytes, and is
+/// told what became of them ([`host`](crate::host) is the host's half). A server with threads calls it under a lock.
+///
+/// A worker's log is a row of files, its segments. Each is a [`NewLog`] until it is created, then a [`Log`] until the next
+/// one follows, and an [`OldLog`] when it is to be deleted. A call that is given a log of another keeper may answer
+/// [`KeeperError::NotLawful`], or take it for a log of its own.
+///
+/// ```
+/// # use mtrecover::{Buffer, Keeper};
+/// # use mtrecover::records::Column;
+/// let (mut keeper, new) = Keeper::begin()?;
+/// let mut file = new.bytes().to_vec(); // under another name, synced; renamed; the folder synced
+/// let log = keeper.created(new)?;
+/// let stamp = keeper.put(&log, b"fig", &[Column::new(0, b"green")])?;
+/// keeper.mark(&log)?;
+///
+/// let mut buffer = Buffer::new();
+/// let taken = keeper.take(&log, &mut buffer)?;
+/// file.extend_from_slice(&taken); // and synced
+/// keeper.synced(taken)?;
+/// assert!(stamp < keeper.acknowledged_below());
+/// assert_eq!(mtrecover::recover(&[&file], &[])?.get(b"fig", 0), Some(b"green".to_vec()));
+/// # Ok::<(), Box<dyn std::error::Error>>(())
+/// ```
+#[derive(Debug)]
+pub struct Keeper(Place);
+
+/// The segment of a worker's log that a file is, for its name.
+#[derive(Clone, Copy, Debug, PartialEq, Eq, PartialOrd, Ord)]
+pub struct Segment {
+    pub worker: u32,
+    pub number: u32,
+}
+
+/// A log that is to be created. It takes no record:
+///
+/// ```compile_fail,E0308
+/// let (mut keeper, new) = mtrecover::Keeper::begin().unwrap();
+/// keeper.remove(&new, b"fig");
+/// ```
+#[must_use]
+#[derive(Debug)]
+pub struct NewLog {
+    number: usize,
+    segment: Segment,
+    bytes: Vec<u8>,
+}
+
+/// A log that takes records.
+#[must_use]
+#[derive(Debug)]
+pub struct Log {
+    number: usize,
+}
+
+/// A log that is to be deleted.
+#[must_use]
+#[derive(Debug)]
+pub struct OldLog {
+    number: usize,
+    segment: Segment,
+}
+
+/// A place for the bytes that a log takes to its file.
+#[derive(Debug)]
+pub struct Buffer(Place);
+
+/// Bytes that were taken of a log, lent by a buffer until it is used again:
+///
+/// ```compile_fail,E0499
+/// # use mtrecover::keeper::{Buffer, Keeper, Log};
+/// fn take_both(keeper: &mut Keeper, one: &Log, other: &Log, buffer: &mut Buffer) {
+///     let taken = keeper.take(one, buffer).unwrap();
+///     let others = keeper.take(other, buffer).unwrap();
+///     keeper.synced(taken).unwrap();
+/// }
+/// ```
+#[must_use]
+#[derive(Debug)]
+pub struct Taken<'b> {
+    number: usize,
+    bytes: &'b [u8],
+}
+
+/// A checkpoint that is being made. Both numbers stand in the headers of its parts.
+#[derive(Clone, Copy, Debug, PartialEq, Eq)]
+pub struct Checkpoint {
+    pub number: u32,
+    pub begin: u64,
+}
+
+/// A keeper that goes on after a crash, while it takes the logs that the last server left.
+#[derive(Debug)]
+pub struct Resuming {
+    place: Place,
+    logs: Vec<usize>,
+}
+
+/// Why a keeper does not do what it is asked. Then nothing changed.
+#[derive(Clone, Copy, Debug, PartialEq, Eq)]
+pub enum KeeperError {
+    OutOfMemory,
+    /// No log of format 2 has the record; the log is another keeper's; or it does not go on.
+    NotLawful,
+    /// What the call waits for did not happen yet.
+    Early,
+    /// The log has no room, or no stamp or number is left.
+    Full,
+    /// A write or a sync failed.
+    Failed,
+}
+
+impl KeeperError {
+    fn of(status: u32) -> KeeperError {
+        match status {
+            c::MEMORY => KeeperError::OutOfMemory,
+            c::WRONG => KeeperError::NotLawful,
+            c::EARLY => KeeperError::Early,
+            c::FULL => KeeperError::Full,
+            c::FAILED => KeeperError::Failed,
+            _ => unreachable!("status {status}"),
+        }
+    }
+}
+
+/// Returns `Ok` if the status is `MTR_DONE`.
+fn answered(status: u32) -> Result<(), KeeperError> {
+    match status {
+        c::DONE => Ok(()),
+        _ => Err(KeeperError::of(status)),
+    }
+}
+
+/// A call that lends bytes tells them here.
+const NOTHING: RawLent = RawLent { at: ptr::null(), length: 0 };
+
+/// Returns the bytes that a call lent.
+///
+/// # Safety
+/// They are lent for `'b`.
+unsafe fn lent<'b>(raw: RawLent) -> &'b [u8] {
+    match raw.length {
+        0 => &[],
+        length => slice::from_raw_parts(raw.at, length),
+    }
+}
+
+// SAFETY, also below: slices are lent for the call, a keeper's place holds a keeper, and a buffer's nothing or bytes.
+
+impl Keeper {
+    /// The keeper of an empty folder, and its first log. It takes no other log until this one is created.
+    pub fn begin() -> Result<(Keeper, NewLog), OutOfMemory> {
+        let keeper = Keeper(Place::empty());
+        done(unsafe { c::mtr_keeper_begin(keeper.0.raw()) })?;
+        let first = keeper.new_log(0);
+        Ok((keeper, first))
+    }
+
+    /// Goes on from this store. All files are a keeper's. First sync them and the folder, and delete the parts of all
+    /// checkpoints but the report's: a later recovery could choose another. `number` is the greatest number of a part that the
+    /// folder had, or 0.
+    pub fn resume(store: &Store, number: u32) -> Result<Resuming, OutOfMemory> {
+        let place = Place::empty();
+        done(unsafe { c::mtr_keeper_resume(place.raw(), store.0.raw(), number) })?;
+        Ok(Resuming { place, logs: Vec::new() })
+    }
+
+    /// Begins the log of a new worker. From then on acknowledgements wait for it.
+    pub fn begin_log(&mut self) -> Result<NewLog, KeeperError> {
+        let mut number = 0;
+        answered(unsafe { c::mtr_log_begin(self.0.raw(), &mut number) })?;
+        Ok(self.new_log(number))
+    }
+
+    /// Seals a log, and begins the next segment of its worker. `Early`: not all records of the log are synced. After `Err`
+    /// it takes records as before.
+    pub fn rotate(&mut self, log: Log) -> Result<NewLog, (Log, KeeperError)> {
+        let mut next = 0;
+        match unsafe { c::mtr_log_rotate(self.0.raw(), log.number, &mut next) } {
+            c::DONE => Ok(self.new_log(next)),
+            status => Err((log, KeeperError::of(status))),
+        }
+    }
+
+    /// Returns the log of this number, which is to be created.
+    fn new_log(&self, number: usize) -> NewLog {
+        let mut bytes = Vec::new();
+        append(&mut bytes, |out, room, count| unsafe { c::mtr_log_bytes(self.0.raw(), number, out, room, count) });
+        NewLog { number, segment: self.segment(number).expect("a new log is a segment"), bytes }
+    }
+
+    fn segment(&self, number: usize) -> Option<Segment> {
+        let mut segment = Segment { worker: 0, number: 0 };
+        let status = unsafe { c::mtr_log_segment(self.0.raw(), number, &mut segment.worker, &mut segment.number) };
+        (status == c::DONE).then_some(segment)
+    }
+
+    /// Notes that the file of the log has its bytes and its name, and that all is synced.
+    pub fn created(&mut self, new: NewLog) -> Result<Log, KeeperError> {
+        answered(unsafe { c::mtr_log_created(self.0.raw(), new.number) })?;
+        Ok(Log { number: new.number })
+    }
+
+    /// Appends a put of these columns, whose numbers rise. Returns its timestamp, which is its version too, above all stamps
+    /// before. So call it while no other update of the key is made.
+    pub fn put(&mut self, log: &Log, key: &[u8], columns: &[Column]) -> Result<u64, KeeperError> {
+        let (length, n) = (key.len(), columns.len());
+        self.stamp(|keeper, stamp| unsafe {
+            c::mtr_log_put(keeper, log.number, key.as_ptr(), length, columns.as_ptr(), n, stamp)
+        })
+    }
+
+    /// Appends a remove of the key, likewise.
+    pub fn remove(&mut self, log: &Log, key: &[u8]) -> Result<u64, KeeperError> {
+        self.stamp(|keeper, stamp| unsafe { c::mtr_log_remove(keeper, log.number, key.as_ptr(), key.len(), stamp) })
+    }
+
+    /// Appends an erase of the columns with these numbers, which rise, likewise.
+    pub fn erase(&mut self, log: &Log, key: &[u8], numbers: &[u8]) -> Result<u64, KeeperError> {
+        let (length, n) = (key.len(), numbers.len());
+        self.stamp(|keeper, stamp| unsafe {
+            c::mtr_log_erase(keeper, log.number, key.as_ptr(), length, numbers.as_ptr(), n, stamp)
+        })
+    }
+
+    /// Returns the stamp that a call tells.
+    fn stamp(&mut self, call: impl FnOnce(*mut c::RawPlace, *mut u64) -> u32) -> Result<u64, KeeperError> {
+        let mut stamp = 0;
+        answered(call(self.0.raw(), &mut stamp))?;
+        Ok(stamp)
+    }
+
+    /// Appends a mark beyond all stamps: once each log has synced one, all updates before may be acknowledged.
+    pub fn mark(&mut self, log: &Log) -> Result<(), KeeperError> {
+        answered(unsafe { c::mtr_log_mark(self.0.raw(), log.number) })
+    }
+
+    /// Takes all that was appended to the log since the last call, to be appended to its file and synced. `Early`: the bytes
+    /// of the last call are not synced.
+    pub fn take<'b>(&mut self, log: &Log, buffer: &'b mut Buffer) -> Result<Taken<'b>, KeeperError> {
+        let mut raw = NOTHING;
+        answered(unsafe { c::mtr_log_take(self.0.raw(), log.number, buffer.0.raw(), &mut raw) })?;
+        // SAFETY: the buffer is borrowed for `'b`.
+        Ok(Taken { number: log.number, bytes: unsafe { lent(raw) } })
+    }
+
+    /// Notes that these bytes are in the log's file, which was synced since.
+    pub fn synced(&mut self, taken: Taken) -> Result<(), KeeperError> {
+        answered(unsafe { c::mtr_log_synced(self.0.raw(), taken.number) })
+    }
+
+    /// Notes that a write or a sync failed. From then on each call that would change the keeper answers `Failed`. Restart the
+    /// machine, and recover from its disk: a later sync may succeed although bytes are lost.
+    pub fn failed(&mut self) {
+        unsafe { c::mtr_keeper_failed(self.0.raw()) };
+    }
+
+    /// All updates with stamps below this one may be acknowledged, or shown.
+    pub fn acknowledged_below(&self) -> u64 {
+        let mut below = 0;
+        unsafe { c::mtr_keeper_acknowledged(self.0.raw(), &mut below) };
+        below
+    }
+
+    /// Begins a checkpoint. Then read each key in one step, between its updates: the version of its entry is the stamp of its
+    /// last update. `Early`: one is being made.
+    pub fn begin_checkpoint(&mut self) -> Result<Checkpoint, KeeperError> {
+        let mut made = Checkpoint { number: 0, begin: 0 };
+        answered(unsafe { c::mtr_checkpoint_begin(self.0.raw(), &mut made.number, &mut made.begin) })?;
+        Ok(made)
+    }
+
+    /// Notes that all keys are read. Returns the end, which stands in the footers. Then sync the parts, rename them, and sync
+    /// the folder. `Early`: no checkpoint is being read.
+    pub fn end_checkpoint(&mut self) -> Result<u64, KeeperError> {
+        let mut end = 0;
+        answered(unsafe { c::mtr_checkpoint_end(self.0.raw(), &mut end) })?;
+        Ok(end)
+    }
+
+    /// Notes that the parts are there and the folder is synced: the server stands on this checkpoint. Then parts of earlier
+    /// ones may be deleted. `Early`: no checkpoint was read, or some log is not synced past its end.
+    pub fn stand(&mut self) -> Result<(), KeeperError> {
+        answered(unsafe { c::mtr_checkpoint_stand(self.0.raw()) })
+    }
+
+    /// Gives up the checkpoint that is being made, if there is one.
+    pub fn abandon_checkpoint(&mut self) -> Result<(), KeeperError> {
+        answered(unsafe { c::mtr_checkpoint_abandon(self.0.raw()) })
+    }
+
+    /// Returns the next log that is to be deleted, if there is one: a worker's lowest segment, without updates from the
+    /// checkpoint's begin on. Delete its file, and sync the folder.
+    pub fn next_to_delete(&mut self) -> Option<OldLog> {
+        let mut number = 0;
+        match unsafe { c::mtr_log_delete(self.0.raw(), &mut number) } {
+            c::DONE => Some(OldLog { number, segment: self.segment(number)? }),
+            _ => None,
+        }
+    }
+
+    /// Notes that the file of the log is deleted, and the folder synced.
+    pub fn deleted(&mut self, old: OldLog) -> Result<(), KeeperError> {
+        answered(unsafe { c::mtr_log_deleted(self.0.raw(), old.number) })
+    }
+}
+
+impl NewLog {
+    /// The segment that it is, for its file's name.
+    pub fn segment(&self) -> Segment {
+        self.segment
+    }
+
+    /// Its bytes. Write them to a file of another name, sync it, rename it, and sync the folder.
+    pub fn bytes(&self) -> &[u8] {
+        &self.bytes
+    }
+}
+
+impl OldLog {
+    /// The segment that it is, for its file's name.
+    pub fn segment(&self) -> Segment {
+        self.segment
+    }
+}
+
+impl Buffer {
+    /// A buffer of no bytes.
+    pub const fn new() -> Buffer {
+        Buffer(Place::empty())
+    }
+}
+
+impl Default for Buffer {
+    fn default() -> Buffer {
+        Buffer::new()
+    }
+}
+
+impl Deref for Taken<'_> {
+    type Target = [u8];
+
+    fn deref(&self) -> &[u8] {
+        self.bytes
+    }
+}
+
+impl Resuming {
+    /// Adds a log that the last server left: the bytes that [`resume_log`](crate::records::resume_log) gave, once they are
+    /// the file's. `NotLawful`: it is ended, or is a segment that was added, or was not resumed with the store's cutoff.
+    pub fn add(&mut self, log: &[u8]) -> Result<(), KeeperError> {
+        let mut number = 0;
+        answered(unsafe { c::mtr_keeper_add(self.place.raw(), log.as_ptr(), log.len(), &mut number) })?;
+        self.logs.push(number);
+        Ok(())
+    }
+
+    /// Notes that all logs are added, and that all files and the folder are synced. Returns those that take records, in the
+    /// order in which they were added: all but segments that a later one follows.
+    pub fn finish(self) -> Result<(Keeper, Vec<Log>), KeeperError> {
+        answered(unsafe { c::mtr_keeper_resumed(self.place.raw()) })?;
+        let keeper = Keeper(self.place);
+        let segments: Vec<_> = self.logs.iter().map(|&number| keeper.segment(number)).collect();
+        let is_followed =
+            |of: &Segment| segments.iter().flatten().any(|other| other.worker == of.worker && other.number > of.number);
+        let is_open = |segment: &Option<Segment>| !segment.as_ref().is_some_and(is_followed);
+        let logs = self.logs.iter().zip(&segments).filter(|(_, segment)| is_open(segment));
+        let logs = logs.map(|(&number, _)| Log { number }).collect();
+        Ok((keeper, logs))
+    }
+}
+
+impl Display for KeeperError {
+    fn fmt(&self, f: &mut Formatter<'_>) -> fmt::Result {
+        f.pad(match self {
+            KeeperError::OutOfMemory => "out of memory",
+            KeeperError::NotLawful => "no lawful record or log",
+            KeeperError::Early => "too early",
+            KeeperError::Full => "no room, stamp or number is left",
+            KeeperError::Failed => "a write or a sync failed",
+        })
+    }
+}
+
+impl From<OutOfMemory> for KeeperError {
+    fn from(_: OutOfMemory) -> KeeperError {
+        KeeperError::OutOfMemory
+    }
+}
+
+impl StdError for KeeperError {}

@@ -1,0 +1,153 @@
+//! The host over a folder. `.ci/try_server` kills a server over it, and fails its calls.
+
+use mtrecover::host::{self, Host, HostError, Part, Settings};
+use mtrecover::records::Column;
+use mtrecover::{KeeperError, Store};
+use std::fs;
+use std::path::{Path, PathBuf};
+
+/// An empty folder, which goes with its test.
+struct Folder(PathBuf);
+
+impl Folder {
+    fn new(name: &str) -> Folder {
+        let path = Path::new(env!("CARGO_TARGET_TMPDIR")).join(name);
+        let _ = fs::remove_dir_all(&path);
+        fs::create_dir(&path).unwrap();
+        Folder(path)
+    }
+
+    fn settings(&self) -> Settings {
+        Settings { folder: self.0.clone(), logs: 2, segment: 500, checkpoint: 2000 }
+    }
+
+    /// Opens the folder. Returns its store too.
+    fn open(&self) -> (Host, Option<Store>) {
+        let mut opened = host::open(self.settings()).unwrap();
+        let store = opened.store.take();
+        (opened.start(entries).unwrap(), store)
+    }
+
+    fn refusal(&self) -> String {
+        host::open(self.settings()).err().unwrap().to_string()
+    }
+
+    /// The names that end so.
+    fn names(&self, ending: &str) -> Vec<String> {
+        let names = fs::read_dir(&self.0).unwrap().map(|file| file.unwrap().file_name().into_string().unwrap());
+        names.filter(|name| name.ends_with(ending)).collect()
+    }
+}
+
+impl Drop for Folder {
+    fn drop(&mut self) {
+        let _ = fs::remove_dir_all(&self.0);
+    }
+}
+
+/// What each checkpoint has.
+fn entries(part: &mut Part) -> Result<(), HostError> {
+    part.entry(1, b"entry", &[Column::new(0, b"v")])
+}
+
+fn put(host: &Host, log: usize, key: &str) -> u64 {
+    host.put(log, key.as_bytes(), &[Column::new(0, b"v")]).unwrap()
+}
+
+#[test]
+fn an_empty_folder_has_no_store() {
+    let folder = Folder::new("empty");
+    let (host, store) = folder.open();
+    assert!(store.is_none());
+    host.close().unwrap();
+}
+
+#[test]
+fn what_is_durable_is_recovered() {
+    let folder = Folder::new("durable");
+    let (host, _) = folder.open();
+    put(&host, 0, "a");
+    put(&host, 1, "b");
+    let stamp = host.remove(0, b"b").unwrap();
+    host.wait(stamp).unwrap();
+    drop(host);
+    let (host, store) = folder.open();
+    let store = store.unwrap();
+    assert_eq!((store.contains_key(b"a"), store.contains_key(b"b")), (true, false));
+    assert!(put(&host, 0, "c") >= store.report().cutoff);
+}
+
+#[test]
+fn what_was_put_is_synced_at_the_end() {
+    let folder = Folder::new("end");
+    let (host, _) = folder.open();
+    put(&host, 1, "a");
+    host.close().unwrap();
+    assert!(folder.open().1.unwrap().contains_key(b"a"));
+}
+
+#[test]
+fn checkpoints_make_segments_old() {
+    let folder = Folder::new("old");
+    let (host, _) = folder.open();
+    for n in 0..500 {
+        host.wait(put(&host, n % 2, "a")).unwrap();
+    }
+    host.close().unwrap();
+    assert!(!folder.names("-0.mtc").is_empty());
+    assert!(!folder.names(".mtl").contains(&"0-0.mtl".to_string()));
+    let store = folder.open().1.unwrap();
+    assert!(store.contains_key(b"a") && store.contains_key(b"entry"));
+}
+
+/// Runs a host whose checkpoints have these entries. Returns the names that they leave.
+fn parts_of(name: &str, entries: impl FnMut(&mut Part) -> Result<(), HostError> + Send + 'static) -> Vec<String> {
+    let folder = Folder::new(name);
+    let host = host::open(folder.settings()).unwrap().start(entries).unwrap();
+    for _ in 0..100 {
+        host.wait(put(&host, 0, "a")).unwrap();
+    }
+    host.close().unwrap();
+    [folder.names(".mtc"), folder.names(".new")].concat()
+}
+
+#[test]
+fn a_checkpoint_that_fails_is_given_up() {
+    assert!(parts_of("failing", |_| Err(HostError::new("a key", "lost"))).is_empty());
+}
+
+#[test]
+fn a_checkpoint_that_lacks_an_entry_is_given_up() {
+    let entries = |part: &mut Part| part.entry(1, b"a", &[]).or(Ok(()));
+    assert!(parts_of("lacking", entries).is_empty());
+}
+
+#[test]
+fn a_folder_has_one_host() {
+    let folder = Folder::new("one");
+    let (host, _) = folder.open();
+    assert_eq!(folder.refusal(), format!("{}: is locked", folder.0.display()));
+    host.close().unwrap();
+    folder.open();
+}
+
+#[test]
+fn a_file_of_another_server_is_refused() {
+    let folder = Folder::new("another");
+    for name in ["a.mtl", "1-01.mtl", "1-1.mtc"] {
+        fs::write(folder.0.join(name), "").unwrap();
+        assert_eq!(folder.refusal(), format!("{name}: is of another server"));
+        fs::remove_file(folder.0.join(name)).unwrap();
+    }
+}
+
+#[test]
+fn a_host_that_failed_acknowledges_nothing() {
+    let folder = Folder::new("failed");
+    let (host, _) = folder.open();
+    fs::remove_dir_all(&folder.0).unwrap(); // so that no segment follows
+    while host.put(0, b"a", &[Column::new(0, b"v")]).is_ok() {}
+    assert_eq!(host.remove(1, b"a"), Err(KeeperError::Failed));
+    assert!(host.wait(u64::MAX).is_err());
+    assert!(host.close().unwrap_err().to_string().contains("No such file"));
+}

@@ -1,0 +1,160 @@
+//! The keeper of logs: what its types let a server do. What its calls answer is proved, and `library/test.c` shows it.
+
+use mtrecover::keeper::{Buffer, Keeper, KeeperError, Log, NewLog, Segment};
+use mtrecover::records::{self, Column};
+
+/// A keeper whose first log may be written, and the bytes of its file.
+fn keeper() -> (Keeper, Log, Vec<u8>) {
+    let (mut keeper, new) = Keeper::begin().unwrap();
+    let file = new.bytes().to_vec();
+    let log = keeper.created(new).unwrap();
+    (keeper, log, file)
+}
+
+fn put(keeper: &mut Keeper, log: &Log, key: &str) -> u64 {
+    keeper.put(log, key.as_bytes(), &[Column::new(0, b"v")]).unwrap()
+}
+
+/// Syncs all that was appended, and a mark.
+fn sync(keeper: &mut Keeper, log: &Log, file: &mut Vec<u8>) {
+    let mut buffer = Buffer::new();
+    keeper.mark(log).unwrap();
+    let taken = keeper.take(log, &mut buffer).unwrap();
+    file.extend_from_slice(&taken);
+    keeper.synced(taken).unwrap();
+}
+
+fn rotate(keeper: &mut Keeper, log: Log) -> NewLog {
+    keeper.rotate(log).map_err(|(_, error)| error).unwrap()
+}
+
+fn segment(worker: u32, number: u32) -> Segment {
+    Segment { worker, number }
+}
+
+#[test]
+fn a_synced_update_may_be_acknowledged() {
+    let (mut keeper, log, mut file) = keeper();
+    let stamp = put(&mut keeper, &log, "a");
+    assert!(keeper.acknowledged_below() <= stamp);
+    sync(&mut keeper, &log, &mut file);
+    assert!(keeper.acknowledged_below() > stamp);
+    assert!(mtrecover::recover(&[&file], &[]).unwrap().contains_key(b"a"));
+}
+
+#[test]
+fn each_log_holds_the_others_back() {
+    let (mut keeper, one, mut file) = keeper();
+    let new = keeper.begin_log().unwrap();
+    assert_eq!(new.segment(), segment(1, 0));
+    let stamp = put(&mut keeper, &one, "a");
+    sync(&mut keeper, &one, &mut file);
+    assert!(keeper.acknowledged_below() <= stamp);
+    let other = keeper.created(new).unwrap();
+    sync(&mut keeper, &other, &mut Vec::new());
+    assert!(keeper.acknowledged_below() > stamp);
+}
+
+#[test]
+fn updates_of_all_kinds_are_recovered() {
+    let (mut keeper, log, mut file) = keeper();
+    put(&mut keeper, &log, "a");
+    put(&mut keeper, &log, "b");
+    keeper.put(&log, b"c", &[Column::new(0, b"v"), Column::new(1, b"w")]).unwrap();
+    keeper.remove(&log, b"a").unwrap();
+    keeper.erase(&log, b"c", &[0]).unwrap();
+    sync(&mut keeper, &log, &mut file);
+    let store = mtrecover::recover(&[&file], &[]).unwrap();
+    assert_eq!((store.contains_key(b"a"), store.contains_key(b"b")), (false, true));
+    assert_eq!((store.get(b"c", 0), store.get(b"c", 1)), (None, Some(b"w".to_vec())));
+}
+
+#[test]
+fn bytes_are_taken_again_once_they_are_synced() {
+    let (mut keeper, log, mut file) = keeper();
+    let mut buffer = Buffer::new();
+    put(&mut keeper, &log, "a");
+    let taken = keeper.take(&log, &mut buffer).unwrap();
+    assert_eq!(keeper.take(&log, &mut Buffer::new()).err(), Some(KeeperError::Early));
+    keeper.synced(taken).unwrap();
+    sync(&mut keeper, &log, &mut file);
+}
+
+#[test]
+fn a_log_that_is_not_synced_stays_as_it_is() {
+    let (mut keeper, log, _) = keeper();
+    put(&mut keeper, &log, "a");
+    let (log, error) = keeper.rotate(log).err().unwrap();
+    assert_eq!(error, KeeperError::Early);
+    put(&mut keeper, &log, "b");
+}
+
+#[test]
+fn what_is_old_is_deleted_after_a_checkpoint() {
+    let (mut keeper, log, mut file) = keeper();
+    put(&mut keeper, &log, "a");
+    sync(&mut keeper, &log, &mut file);
+    let next = rotate(&mut keeper, log);
+    assert_eq!(next.segment(), segment(0, 1));
+    let log = keeper.created(next).unwrap();
+    assert!(keeper.next_to_delete().is_none());
+    put(&mut keeper, &log, "b");
+    let checkpoint = keeper.begin_checkpoint().unwrap();
+    assert_eq!(checkpoint.number, 1);
+    assert!(keeper.end_checkpoint().unwrap() >= checkpoint.begin);
+    assert_eq!(keeper.stand(), Err(KeeperError::Early));
+    sync(&mut keeper, &log, &mut file);
+    keeper.stand().unwrap();
+    let old = keeper.next_to_delete().unwrap();
+    assert_eq!(old.segment(), segment(0, 0));
+    keeper.deleted(old).unwrap();
+    assert!(keeper.next_to_delete().is_none());
+}
+
+#[test]
+fn a_checkpoint_is_given_up() {
+    let (mut keeper, _log, _) = keeper();
+    keeper.begin_checkpoint().unwrap();
+    assert_eq!(keeper.begin_checkpoint(), Err(KeeperError::Early));
+    keeper.abandon_checkpoint().unwrap();
+    assert_eq!(keeper.begin_checkpoint().unwrap().number, 2);
+}
+
+#[test]
+fn an_unlawful_record_is_refused() {
+    let (mut keeper, log, _) = keeper();
+    assert_eq!(keeper.put(&log, b"a", &[]), Err(KeeperError::NotLawful));
+    assert_eq!(keeper.erase(&log, b"a", &[3, 3]), Err(KeeperError::NotLawful));
+}
+
+#[test]
+fn a_failed_keeper_takes_nothing() {
+    let (mut keeper, log, _) = keeper();
+    keeper.failed();
+    assert_eq!(keeper.remove(&log, b"a"), Err(KeeperError::Failed));
+    assert_eq!(keeper.begin_log().err(), Some(KeeperError::Failed));
+}
+
+#[test]
+fn a_keeper_goes_on_after_a_crash() {
+    let (mut keeper, log, mut first) = keeper();
+    put(&mut keeper, &log, "a");
+    sync(&mut keeper, &log, &mut first);
+    let second = rotate(&mut keeper, log).bytes().to_vec();
+
+    let store = mtrecover::recover(&[&first, &second], &[]).unwrap();
+    let mut resuming = Keeper::resume(&store, 0).unwrap();
+    let mut resumed = Vec::new();
+    for log in [&first, &second] {
+        resumed.clear();
+        records::resume_log(&mut resumed, log, store.report().cutoff).unwrap();
+        resuming.add(&resumed).unwrap();
+    }
+    let (mut keeper, logs) = resuming.finish().unwrap();
+    assert_eq!(logs.len(), 1);
+    let stamp = put(&mut keeper, &logs[0], "b");
+    assert!(stamp >= store.report().cutoff);
+    sync(&mut keeper, &logs[0], &mut resumed);
+    let store = mtrecover::recover(&[&first, &resumed], &[]).unwrap();
+    assert!(store.contains_key(b"a") && store.contains_key(b"b"));
+}
