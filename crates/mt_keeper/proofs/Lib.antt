@@ -9,3 +9,9 @@ pub mod Leaving
 pub mod NewLogs
 pub mod Staging
 pub mod Restarts
+pub mod Deeds
+pub mod Orders
+pub mod Doing
+pub mod Closing
+pub mod Lending
+pub mod Sending

@@ -2,3 +2,5 @@ pub mod Keeping
 pub mod Calling
 pub mod Refusals
 pub mod Restarting
+pub mod Crews
+pub mod Lending

@@ -24,17 +24,22 @@
 
 mod beginning;
 mod checkpoints;
+mod crew;
 mod deleting;
 mod first;
 mod keeper;
 mod keeper_fault;
+mod lent_log;
 mod resuming;
 mod segments;
 #[cfg(test)]
 mod tests;
+mod working;
 mod writing;
 
+pub use crew::{Crew, LATEST_LENT, MOST_LOGS, MOST_STAMPS};
 pub use first::First;
 pub use keeper::Keeper;
 pub use keeper_fault::KeeperFault;
+pub use lent_log::LentLog;
 pub use resuming::Restart;

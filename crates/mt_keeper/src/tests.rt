@@ -1,9 +1,12 @@
 //! Tests of what no contract says: that calls succeed.
-use crate::{First, Keeper, KeeperFault, Restart};
+ghost use Rattle.std.specs.Prelude.{◌≡◌, IfSome};
+
+use crate::{Crew, First, Keeper, KeeperFault, LentLog, Restart};
 use mt_record::Given;
 use mt_writer::WriterFault;
 use std::alloc::Global;
 use std::process::Abort;
+use std::thread::{Threads, join};
 
 /// Returns the keeper of a new folder.
 fn keeper(alloc: Global, rt: &impl Abort) -> Keeper {
@@ -84,4 +87,96 @@ fn a_failed_keeper_takes_nothing(rt: HostRuntime) {
         keeper.mark(0),
         Err(KeeperFault::Writer(WriterFault::Failed))
     );
+}
+
+/// Lends the two logs of a server.
+fn lend_two(alloc: Global, rt: &impl Abort) -> (Crew, LentLog, LentLog)
+    ensures first { result.1.table ≡ result.0.table }
+    ensures second { result.2.table ≡ result.0.table }
+{
+    let mut keeper = keeper(alloc, rt);
+    let number = keeper.begin_log(alloc).expect(rt, "a second log");
+    keeper.created(number).expect(rt, "a file");
+    let Ok((crew, mut logs)) = keeper.lend(alloc) else {
+        panic!(rt; "no logs were lent");
+    };
+    let second = logs.pop().expect(rt, "a second log");
+    let first = logs.pop().expect(rt, "a first log");
+    (crew, first, second)
+}
+
+/// Puts `times` times, and returns the log. None: a put was refused.
+fn put_often(crew: &Crew, mut log: LentLog, times: usize) -> Option<LentLog>
+    requires { log.table ≡ crew.now.table }
+    ensures { IfSome result (λ l. l.table ≡ crew.now.table) }
+{
+    let columns = [Given {
+        number: 0,
+        bytes: b"red",
+    }];
+    for _ in 0..times {
+        crew.put(&mut log, b"k", &columns).ok()?;
+    }
+    Some(log)
+}
+
+/// Lets a thread put to each of two logs, at once. None: a put was refused.
+fn put_by_two<R: Threads + Sync>(
+    rt: &R,
+    crew: &Crew,
+    first: LentLog,
+    second: LentLog,
+) -> Option<(LentLog, LentLog)>
+    requires first { first.table ≡ crew.now.table }
+    requires second { second.table ≡ crew.now.table }
+    ensures first { IfSome result (λ logs. logs.0.table ≡ crew.now.table) }
+    ensures second { IfSome result (λ logs. logs.1.table ≡ crew.now.table) }
+{
+    let (first, second) = join(
+        rt,
+        || -> Option<LentLog>
+            requires { first.table ≡ crew.now.table }
+            ensures { IfSome result (λ l. l.table ≡ crew.entry.now.table) }
+        { put_often(crew, first, 1000) },
+        || -> Option<LentLog>
+            requires { second.table ≡ crew.now.table }
+            ensures { IfSome result (λ l. l.table ≡ crew.entry.now.table) }
+        { put_often(crew, second, 1000) },
+    );
+    Some((first?, second?))
+}
+
+#[test]
+fn two_threads_put_at_once(rt: HostRuntime) {
+    let alloc = rt.alloc();
+    let (crew, first, second) = lend_two(alloc, &rt);
+    let (first, second) = put_by_two(&rt, &crew, first, second).expect(&rt, "puts");
+    let logs = vec![in alloc; first, second].expect(&rt, "memory");
+    let Ok(mut keeper) = crew.close(alloc, logs) else {
+        panic!(&rt; "the crew was not closed");
+    };
+    let columns = [Given {
+        number: 0,
+        bytes: b"red",
+    }];
+    assert_eq!(&rt; keeper.put(0, b"k", &columns), Ok(2002));
+}
+
+#[test]
+fn a_thread_may_acknowledge_what_all_have_synced(rt: HostRuntime) {
+    let alloc = rt.alloc();
+    let (crew, mut first, mut second) = lend_two(alloc, &rt);
+    let columns = [Given {
+        number: 0,
+        bytes: b"red",
+    }];
+    assert_eq!(&rt; crew.put(&mut first, b"k", &columns), Ok(2));
+    assert_eq!(&rt; crew.mark(&mut first), Ok(()));
+    assert_eq!(&rt; crew.mark(&mut second), Ok(()));
+    assert!(&rt; crew.take(&mut first, Vec::new(alloc)).is_ok());
+    assert_eq!(&rt; crew.synced(&mut first), Ok(()));
+    assert_eq!(&rt; crew.acknowledged_below(&mut first), 2);
+    assert!(&rt; crew.take(&mut second, Vec::new(alloc)).is_ok());
+    assert_eq!(&rt; crew.synced(&mut second), Ok(()));
+    assert_eq!(&rt; crew.acknowledged_below(&mut first), 3);
 }
