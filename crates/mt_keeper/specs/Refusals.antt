@@ -1,17 +1,20 @@
 -- When a keeper refuses a call.
-use Rattle.std.specs.Prelude.{◌≡◌, ℕ, suc, ◌+◌, ◌≤◌, ◌⊎◌, ◌^◌, ◌++◌, Option, Some, None, [], IsSome, IsTrue, slice_get}
+use Rattle.std.specs.Prelude.{◌≡◌, ℕ, suc, ◌+◌, ◌≤◌, ◌⊎◌, ◌^◌, ◌%◌, ◌++◌, Option, Some, None, [], ◌∷◌, false, IsSome, IsTrue, slice_get}
 use Rattle.mt_words.specs.declared.record.Change.{Change}
+use Rattle.mt_shared.specs.declared.known.Act.{Act}
+use Rattle.mt_shared.specs.Words.{act}
 use Rattle.mt_record.specs.declared.feed.head.Segment.{Segment}
 use Rattle.mt_record.specs.Resuming.{greatest_timestamp}
 use Rattle.mt_writer.specs.declared.writer_fault.WriterFault.{WriterFault}
 use Rattle.mt_writer.specs.declared.writer_fault.WriterFault.TheVariants.{Failed, Ended, Full, Memory}
-use Rattle.mt_writer.specs.Journals.{Journal, Writer, NewFile}
+use Rattle.mt_writer.specs.Journals.{Journal, Writer, NewFile, Keeps}
 use Rattle.mt_writer.specs.Refusing.{HasEnded, IsRefused, IsUnlawful, MayNotSeal}
 use Rattle.mt_laws.specs.Writing.{writing, Server}
 use Rattle.mt_keeper.specs.declared.keeper.Stage.{Stage}
 use Rattle.mt_keeper.specs.declared.keeper.Stage.TheVariants.{Coming, Writing, Going}
 use Rattle.mt_keeper.specs.declared.keeper.Log.{Log}
 use Rattle.mt_keeper.specs.Keeping.{Keeping, numbered, IsReading, HasRead, ArePast}
+use Rattle.mt_keeper.specs.Crews.{LentView}
 use Rattle.mt_keeper.specs.declared.keeper_fault.KeeperFault.{KeeperFault}
 use Rattle.mt_keeper.specs.declared.keeper_fault.KeeperFault.TheVariants as faults
 
@@ -100,3 +103,45 @@ ReadsNone keeper fault = (fault ≡ faults.Early) × ((begin : ℕ) → IsReadin
 -- no checkpoint was read, or some log is not synced past its end
 abbrev pub MayNotStand : Keeping → KeeperFault → Type 0
 MayNotStand keeper fault = (fault ≡ faults.Early) × ((begin end : ℕ) → HasRead keeper.making begin end → ArePast end keeper.logs → ⊥)
+
+-- ---- lent logs
+
+-- a write or a sync of the log failed before
+abbrev pub LentHasFailed : LentView → KeeperFault → Type 0
+LentHasFailed lent fault = (fault ≡ faults.Writer Failed) × IsTrue lent.failed
+
+-- the log has drawn all its stamps
+abbrev pub DrawsNone : LentView → KeeperFault → Type 0
+DrawsNone lent fault = (fault ≡ faults.Writer Ended) × (lent.left ≡ 0)
+
+-- a stamp is drawn from this clock
+abbrev pub draw : (clock : ℕ) → Act
+draw clock = act 0 clock ((clock + 1) % 2 ^ 64)
+
+-- this clock is read
+abbrev pub look : (clock : ℕ) → Act
+look clock = act 0 clock clock
+
+-- the log's writer refuses, at the stamp after the clock that the log found just now
+pub record LentRefuses (finds : ℕ → Act) (Refuses : ℕ → Writer → WriterFault → Type 0) (before after : LentView) (fault : KeeperFault) : Type 0 where
+  pub clock : ℕ
+  pub acts : after.acts ≡ before.acts ++ finds clock ∷ []
+  pub reason : WriterFault
+  pub fault_is : fault ≡ faults.Writer reason
+  pub refuses : Refuses (clock + 1) before.writer reason
+
+-- why a lent log takes no such change, which has its stamp as its version
+abbrev pub LentTakesNot : (ℕ → Change) → (before after : LentView) → KeeperFault → Type 0
+LentTakesNot change before after fault = LentHasFailed before fault ⊎ (DrawsNone before fault ⊎ LentRefuses draw (λ stamp. NoChange stamp (change stamp)) before after fault)
+
+-- why a lent log takes no mark
+abbrev pub LentMarksNot : (before after : LentView) → KeeperFault → Type 0
+LentMarksNot before after fault = LentHasFailed before fault ⊎ LentRefuses look NoMark before after fault
+
+-- a write of the log was not told to be synced
+abbrev pub IsLentInFlight : LentView → KeeperFault → Type 0
+IsLentInFlight lent fault = (fault ≡ faults.Early) × ((j : Journal) → Keeps lent.writer j → lent.writer.failed ≡ false → j.taken ≡ [] → ⊥)
+
+-- the keeper has no log of this number
+abbrev pub IsNoLog : (logs : ℕ) → LentView → KeeperFault → Type 0
+IsNoLog logs lent fault = (fault ≡ faults.Log) × (logs ≤ lent.number)

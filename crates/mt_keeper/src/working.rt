@@ -9,6 +9,7 @@ ghost use Rattle.mt_record.specs.Logs.{log_bytes};
 ghost use Rattle.mt_writer.specs.Files.{file_bytes};
 ghost use Rattle.mt_writer.specs.Journals.{Journal, Keeps, file_of, handed_out};
 ghost use Rattle.mt_keeper.specs.Crews.{Deed, wrote, spent, marked, took, synced, looked, asked, HasDone};
+ghost use Rattle.mt_keeper.specs.Refusals.{LentTakesNot, LentMarksNot, LentHasFailed, IsLentInFlight, IsNoLog};
 ghost use Rattle.mt_keeper.specs.declared.keeper_fault.KeeperFault.TheVariants as faults;
 
 use crate::crew::Crew;
@@ -34,6 +35,7 @@ impl Crew {
         ensures err { (deeds : List Deed) → HasDone self.now.before log.old deeds → OnErr result (HasDone self.now.before log.new deeds ⊎ HasDone self.now.before log.new (deeds ++ spent ∷ [])) }
         ensures same { log.new.table ≡ log.old.table }
         ensures failed { log.old.failed ≡ true → (result ≡ Err (faults.Writer Failed)) × (log.new ≡ log.old) }
+        ensures fault { IfErr result (LentTakesNot (λ stamp. record { version = stamp; key = key.now; kind = kinds.Put (map column_of columns.now) }) log.old log.new) }
     {
         self.change(log, key, GivenKind::Put(columns))
     }
@@ -45,6 +47,7 @@ impl Crew {
         ensures err { (deeds : List Deed) → HasDone self.now.before log.old deeds → OnErr result (HasDone self.now.before log.new deeds ⊎ HasDone self.now.before log.new (deeds ++ spent ∷ [])) }
         ensures same { log.new.table ≡ log.old.table }
         ensures failed { log.old.failed ≡ true → (result ≡ Err (faults.Writer Failed)) × (log.new ≡ log.old) }
+        ensures fault { IfErr result (LentTakesNot (λ stamp. record { version = stamp; key = key.now; kind = kinds.Remove }) log.old log.new) }
     {
         self.change(log, key, GivenKind::Remove)
     }
@@ -56,6 +59,7 @@ impl Crew {
         ensures err { (deeds : List Deed) → HasDone self.now.before log.old deeds → OnErr result (HasDone self.now.before log.new deeds ⊎ HasDone self.now.before log.new (deeds ++ spent ∷ [])) }
         ensures same { log.new.table ≡ log.old.table }
         ensures failed { log.old.failed ≡ true → (result ≡ Err (faults.Writer Failed)) × (log.new ≡ log.old) }
+        ensures fault { IfErr result (LentTakesNot (λ stamp. record { version = stamp; key = key.now; kind = kinds.Erase numbers.now }) log.old log.new) }
     {
         self.change(log, key, GivenKind::Erase(numbers))
     }
@@ -67,6 +71,7 @@ impl Crew {
         ensures err { (deeds : List Deed) → HasDone self.now.before log.old deeds → OnErr result (HasDone self.now.before log.new deeds ⊎ HasDone self.now.before log.new (deeds ++ looked ∷ [])) }
         ensures same { log.new.table ≡ log.old.table }
         ensures failed { log.old.failed ≡ true → (result ≡ Err (faults.Writer Failed)) × (log.new ≡ log.old) }
+        ensures fault { IfErr result (LentMarksNot log.old log.new) }
     {
         if log.failed {
             return Err(WriterFault::Failed.into());
@@ -88,6 +93,7 @@ impl Crew {
         ensures err { OnErr result (log.new ≡ log.old) }
         ensures same { log.new.table ≡ log.old.table }
         ensures failed { log.old.failed ≡ true → (result ≡ Err (faults.Writer Failed)) × (log.new ≡ log.old) }
+        ensures fault { IfErr result (λ fault. LentHasFailed log.old fault ⊎ IsLentInFlight log.old fault) }
     {
         if log.failed {
             return Err(WriterFault::Failed.into());
@@ -107,6 +113,7 @@ impl Crew {
         ensures err { OnErr result (log.new ≡ log.old) }
         ensures same { log.new.table ≡ log.old.table }
         ensures failed { log.old.failed ≡ true → (result ≡ Err (faults.Writer Failed)) × (log.new ≡ log.old) }
+        ensures fault { IfErr result (λ fault. LentHasFailed log.old fault ⊎ IsNoLog (length self.now.before.logs) log.old fault) }
     {
         if log.failed {
             return Err(WriterFault::Failed.into());
@@ -143,6 +150,7 @@ impl Crew {
         ensures err { (deeds : List Deed) → HasDone self.now.before log.old deeds → OnErr result (HasDone self.now.before log.new deeds ⊎ HasDone self.now.before log.new (deeds ++ spent ∷ [])) }
         ensures same { log.new.table ≡ log.old.table }
         ensures failed { log.old.failed ≡ true → (result ≡ Err (faults.Writer Failed)) × (log.new ≡ log.old) }
+        ensures fault { IfErr result (LentTakesNot (λ stamp. record { version = stamp; key = key.now; kind = kind_of kind.entry }) log.old log.new) }
     {
         if log.failed {
             return Err(WriterFault::Failed.into());
