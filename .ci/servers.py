@@ -7,14 +7,12 @@ import socket
 import subprocess
 import threading
 from contextlib import suppress
-from pathlib import Path
 from typing import NamedTuple
 
 from counting import count
 from formats import GREATEST
-from stores import run, told_call
+from stores import run
 
-HERE = Path(".")
 # How many keys the clients share.
 KEYS = 20
 
@@ -120,20 +118,6 @@ def waiting(clients, lines):
     """Returns the updates that clients have sent, and that none of these lines has."""
     made = {line.value for line in lines if line.what == "put" and line.value != "-"}
     return [client.waits for client in clients if client.waits and client.waits.value not in made]
-
-
-def read_told(told):
-    """Returns the calls of a server that changed the folder where it ran, and the lines that it wrote elsewhere."""
-    calls, lines, paths = [], [], {}
-    # A line that the kill cut may stand before another one, or at the end.
-    for line in told.read_text().rpartition("\n")[0].splitlines():
-        line = line[max(line.rfind("write "), line.rfind("sync "), 0) :]
-        call, file, *words = line.split(" ")
-        if call == "write" and file not in paths:
-            lines += read_lines(len(calls), bytes.fromhex(words[0]).decode())
-        elif call := told_call(line, HERE, paths):
-            calls.append(call)
-    return calls, lines
 
 
 def read_lines(calls, text):
