@@ -1,11 +1,11 @@
-/* Lives of a server over a host, in the machine of sim.c: lives FIRST COUNT plays those of COUNT seeds from FIRST on, up to
- * one that goes wrong. Clients put, remove, read and wait while the machine may crash or calls fail, and the server starts
- * again over what that leaves, up to a start without them.
+/* Lives of a server over a host: `lives FIRST COUNT` plays those of COUNT seeds from FIRST on, up to one that goes wrong. In the
+ * machine of disk.c and threads.c clients put, remove, read and wait, until it crashes, or calls fail. Then the server starts
+ * again over what is left, and in the end once more without either.
  *
- * What a start recovers must be what the updates up to the stamp that it tells make, and that stamp none below one that
- * was acknowledged before. Stamps rise. While no call fails, each call of the host succeeds, and it closes each file. */
+ * What a start recovers must be what the updates up to the stamp that it tells have made, and no later stamp was acknowledged.
+ * Stamps rise. While no call fails, each call of the host succeeds, and it closes each file. */
 #define _GNU_SOURCE
-#include "sim.h"
+#include "lives.h"
 #include <inttypes.h>
 #include <pthread.h>
 #include <stdio.h>
@@ -32,7 +32,7 @@ static struct life {
     uint64_t acknowledged; /* the greatest stamp */
     unsigned values;       /* so many were sent */
     bool has_opened;
-    uint64_t starts, opens, crashes, twice, restarts, updates, acknowledgements; /* of all lives */
+    unsigned long starts, opens, crashes, twice, restarts, updates, acknowledgements; /* of all lives */
 } *life;
 
 /* The server's table. */
@@ -83,7 +83,7 @@ static bool update(unsigned key, bool is_put) {
     *update = (struct update){key, is_put ? ++life->values : 0, 0};
     life->is_under_way = true;
     show(key, update->value, 0, &entry);
-    bool is_made = host_put((unsigned)sim_random(logs), &entry);
+    bool is_made = host_put((unsigned)any_below(logs), &entry);
     life->is_under_way = false;
     must(is_made || machine->failures > 0, "an update fails");
     if (is_made) {
@@ -113,7 +113,7 @@ static bool await(unsigned key) {
 static void *ask(void *given) {
     bool goes_on = true;
     for (unsigned n = 0; n < requests && goes_on; n++) {
-        unsigned key = (unsigned)sim_random(KEYS), what = (unsigned)sim_random(8);
+        unsigned key = (unsigned)any_below(KEYS), what = (unsigned)any_below(8);
         goes_on = what == 0 || update(key, what > 1);
         if (what < 6)
             goes_on = await(key) && goes_on;
@@ -146,16 +146,16 @@ static void check(uint64_t last) {
 
 static void start(void) {
     pthread_t clients[CLIENTS];
-    unsigned count = 0, wanted = 1 + (unsigned)sim_random(CLIENTS);
-    uint64_t last = 0, segment = UINT64_C(100) << sim_random(5), checkpoint = UINT64_C(300) << sim_random(6);
-    logs = 1 + (unsigned)sim_random(3);
-    requests = 1 + (unsigned)sim_random(UINT64_C(1) << sim_random(8));
+    unsigned count = 0, wanted = 1 + (unsigned)any_below(CLIENTS);
+    uint64_t last = 0, segment = UINT64_C(100) << any_below(5), checkpoint = UINT64_C(300) << any_below(6);
+    logs = 1 + (unsigned)any_below(3);
+    requests = 1 + (unsigned)any_below(UINT64_C(1) << any_below(8));
     bool is_open = host_open(logs, segment, checkpoint, &last);
     must(is_open || machine->failures > 0, "the folder does not open");
     if (!is_open)
         return;
     check(last);
-    must(sim_random(16) > 0 || !host_shares(), "two hosts share the folder");
+    must(any_below(16) > 0 || !host_shares(), "two hosts share the folder");
     bool is_started = host_start();
     must(is_started || machine->failures > 0, "no start");
     while (is_started && count < wanted && pthread_create(&clients[count], NULL, ask, NULL) == 0)
@@ -164,62 +164,77 @@ static void start(void) {
         pthread_join(clients[n], NULL);
     bool is_closed = host_close();
     must(is_closed || machine->failures > 0, "the host fails");
-    must(sim_open_files() == 0, "%u files stay open", sim_open_files());
-    must(sim_files(".mtc") < 3 || machine->failures > 0, "%u parts stay", sim_files(".mtc"));
+    must(open_files() == 0, "%u files stay open", open_files());
+    must(names_with(".mtc") < 3 || machine->failures > 0, "%u parts stay", names_with(".mtc"));
     if (is_started && is_closed && life->count > 0)
         life->acknowledged = life->since[life->count - 1].stamp;
 }
 
-/* Something that happens at one of the first calls of a kind, or never. */
-static struct event choose_event(bool is_never, enum call call, uint64_t most) {
+/* Something that happens at one of the first calls of a kind. */
+static struct event choose_event(enum call call, uint64_t most) {
     static const char *const names[] = {"", "", "mtl", "mtc"};
-    unsigned of = (unsigned)sim_random(4);
-    struct event event = {call, "", 0};
-    strcpy(event.of, names[of]);
-    if (!is_never)
-        event.left = 1 + sim_random(UINT64_C(1) << sim_random(of < 2 ? most : most / 2 + 1));
+    struct event event = {call, "", 0, 0};
+    if (call != MEMORY)
+        strcpy(event.of, names[any_below(4)]);
+    uint64_t more = call == MEMORY || (call == ANY && *event.of == 0) ? 4 : 0;
+    event.left = 1 + any_below(UINT64_C(1) << (more + any_below(most)));
     return event;
 }
 
-/* Runs a start as a process. Returns how it ended. */
-static int run(bool is_last) {
-    int status = 0;
-    machine->loyalty = sim_random(8);
-    machine->crash = choose_event(is_last || sim_random(8) == 0, sim_random(2) == 0 ? ANY : (enum call)sim_random(ANY), 12);
-    machine->failure = choose_event(is_last || sim_random(2) == 0, (enum call)sim_random(ANY), 6);
-    machine->fails_on = sim_random(4) == 0;
+/* Chooses what happens in a start: in each life's first ones the machine crashes, and a call fails, at its own call. */
+static void choose(uint64_t seed, unsigned number, bool is_last) {
+    unsigned what = is_last ? 0 : (unsigned)any_below(8);
+    struct event never = {ANY, "", 0, 0}, own = {ANY, "", 1 + seed % 256, 0};
+    machine->loyalty = any_below(8);
+    machine->crash = what > 2 ? choose_event(any_below(2) == 0 ? ANY : (enum call)any_below(MEMORY), 8) : never;
+    machine->crash.delay = what > 2 ? any_below(10) * any_below(2) : 0;
+    machine->failure = what == 1 || what == 2 || what == 7 ? choose_event((enum call)any_below(ANY), 6) : never;
+    machine->fails_on = any_below(4) == 0;
+    if (number == 1 && !is_last)
+        machine->crash = own;
+    if (number == 2 && !is_last)
+        machine->failure = own;
     machine->failures = 0;
     machine->needs_restart = false;
+}
+
+/* Runs a start as a process. Returns how it ended. */
+static int run(void) {
+    int status = 0;
     pid_t process = fork();
     if (process == 0) {
         start();
         _exit(ENDED);
     }
-    must(process > 0 && waitpid(process, &status, 0) == process, "no process");
-    if (!WIFEXITED(status))
-        snprintf(machine->why, sizeof machine->why, "a process ends by signal %d", WTERMSIG(status));
-    return WIFEXITED(status) ? WEXITSTATUS(status) : WRONG;
+    if (process < 0 || waitpid(process, &status, 0) != process)
+        abort();
+    if (WIFEXITED(status))
+        return WEXITSTATUS(status);
+    snprintf(machine->why, sizeof machine->why, "a process ends by signal %d", WTERMSIG(status));
+    return WRONG;
 }
 
 /* Plays the life of this seed. Returns whether all is well. */
 static bool play(uint64_t seed) {
-    sim_begin(seed);
-    memset(life, 0, offsetof(struct life, starts));
     bool was_cut = false;
-    for (uint64_t left = 3 + sim_random(6); left-- > 0;) {
+    begin_machine(seed);
+    memset(life, 0, offsetof(struct life, starts));
+    uint64_t starts = 3 + any_below(6);
+    for (unsigned number = 0; number < starts; number++) {
         life->has_opened = false;
         life->starts++;
-        int end = run(left == 0);
+        choose(seed, number, number + 1 == starts);
+        int end = run();
         if (end == WRONG) {
-            printf("seed %" PRIu64 ", start %" PRIu64 ": %s\n", seed, life->starts, machine->why);
+            printf("seed %" PRIu64 ", start %u: %s\n", seed, number + 1, machine->why);
             return false;
         }
-        bool is_cut = end == CRASHED && !life->has_opened, restarts = machine->needs_restart || sim_random(2) > 0;
+        bool is_cut = end == CRASHED && !life->has_opened, restarts = machine->needs_restart || any_below(2) > 0;
         life->crashes += end == CRASHED;
         life->twice += is_cut && was_cut;
         life->restarts += restarts;
         was_cut = is_cut;
-        sim_restart(restarts);
+        restart_machine(restarts);
     }
     return true;
 }
@@ -227,14 +242,13 @@ static bool play(uint64_t seed) {
 int main(int argc, char **argv) {
     uint64_t first = argc > 1 ? strtoull(argv[1], NULL, 10) : 1, count = argc > 2 ? strtoull(argv[2], NULL, 10) : 1;
     bool is_well = true;
-    sim_create();
+    create_machine();
     life = mmap(NULL, sizeof *life, PROT_READ | PROT_WRITE, MAP_SHARED | MAP_ANONYMOUS, -1, 0);
     for (uint64_t n = 0; n < count && is_well; n++)
         is_well = play(first + n);
-    printf("%" PRIu64 " starts, %" PRIu64 " recoveries, %" PRIu64 " crashes, %" PRIu64 " of them in the start after one in a start, "
-           "%" PRIu64 " restarts of the machine, %" PRIu64 " updates, %" PRIu64 " acknowledgements, %" PRIu64 " calls, %" PRIu64
-           " failed, %" PRIu64 " segments, %" PRIu64 " checkpoints, %" PRIu64 " deletions\n",
-           life->starts, life->opens, life->crashes, life->twice, life->restarts, life->updates, life->acknowledgements,
-           machine->calls, machine->failed, machine->segments, machine->checkpoints, machine->deletions);
+    printf("%lu starts, %lu recoveries, %lu crashes, %lu in a start after one in a start, %lu restarts of the machine, ", life->starts,
+           life->opens, life->crashes, life->twice, life->restarts);
+    printf("%lu updates, %lu acknowledgements, %lu calls, %lu failed calls, %lu segments, %lu checkpoints, %lu deletions\n", life->updates,
+           life->acknowledgements, machine->calls, machine->failed, machine->segments, machine->checkpoints, machine->deletions);
     return is_well ? 0 : 1;
 }

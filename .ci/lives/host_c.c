@@ -1,6 +1,6 @@
 /* The host of library/host.c, for lives.c. */
 #include "mtrecover_host.h"
-#include "sim.h"
+#include "lives.h"
 #include <string.h>
 
 static mtr_host *host;
@@ -29,6 +29,7 @@ bool host_open(unsigned logs, uint64_t segment, uint64_t checkpoint, uint64_t *l
     host = open_host(logs, segment, checkpoint, &store, last);
     if (host == NULL)
         return false;
+    spare_memory();
     must(!store.full || mtr_range(&store, NULL, 0, SIZE_MAX, &hits) == MTR_DONE, "no range");
     for (size_t n = 0; mtr_hit(&hits, n, &columns, key, sizeof key, &key_length) == MTR_DONE; n++) {
         must(mtr_hit_column(&hits, n, 0, &number, value, sizeof value, &length) == MTR_DONE && columns == 1 && number == 0, "a column");
@@ -36,6 +37,7 @@ bool host_open(unsigned logs, uint64_t segment, uint64_t checkpoint, uint64_t *l
     }
     mtr_free(&hits);
     mtr_free(&store);
+    spare_memory();
     return true;
 }
 

@@ -11,6 +11,7 @@ pub struct Entry {
 }
 
 extern "C" {
+    fn spare_memory();
     fn recovered(key: *const u8, key_length: usize, value: *const u8, value_length: usize);
     fn entry_at(number: u32, entry: &mut Entry) -> bool;
 }
@@ -33,14 +34,13 @@ fn open(logs: u32, segment: u64, checkpoint: u64) -> Option<Opened> {
 
 fn entries(part: &mut Part) -> Result<(), HostError> {
     let mut entry = Entry { key: [0; 8], value: [0; 200], version: 0 };
-    for number in 0.. {
-        // SAFETY: the call fills the entry.
-        if !unsafe { entry_at(number, &mut entry) } {
-            break;
-        }
+    let mut number = 0;
+    // SAFETY: the call fills the entry.
+    while unsafe { entry_at(number, &mut entry) } {
         if entry.value[0] != 0 {
             part.entry(entry.version, text(&entry.key), &[Column::new(0, text(&entry.value))])?;
         }
+        number += 1;
     }
     Ok(())
 }
@@ -51,11 +51,13 @@ extern "C" fn host_open(logs: u32, segment: u64, checkpoint: u64, last: &mut u64
         return false;
     };
     *last = opened.last;
+    // SAFETY: the calls get a lawful key and value.
+    unsafe { spare_memory() };
     for pair in opened.store.iter().flat_map(|store| store.pairs(b"")) {
         let (key, value) = (&pair.key, &pair.columns[0].1);
-        // SAFETY: the call reads the two.
         unsafe { recovered(key.as_ptr(), key.len(), value.as_ptr(), value.len()) };
     }
+    unsafe { spare_memory() };
     *OPENED.lock().unwrap() = Some(opened);
     true
 }
@@ -70,16 +72,19 @@ extern "C" fn host_start() -> bool {
 #[no_mangle]
 extern "C" fn host_put(log: u32, entry: &mut Entry) -> bool {
     let (key, value) = (text(&entry.key), text(&entry.value));
-    let stamp = HOST.read().unwrap().as_ref().and_then(|host| {
-        let made = if value.is_empty() { host.remove(log as usize, key) } else { host.put(log as usize, key, &[Column::new(0, value)]) };
-        made.ok()
-    });
-    stamp.inspect(|&stamp| entry.version = stamp).is_some()
+    let guard = HOST.read().unwrap();
+    let host = guard.as_ref().unwrap();
+    let stamp = match value {
+        b"" => host.remove(log as usize, key),
+        _ => host.put(log as usize, key, &[Column::new(0, value)]),
+    };
+    entry.version = *stamp.as_ref().unwrap_or(&0);
+    stamp.is_ok()
 }
 
 #[no_mangle]
 extern "C" fn host_wait(stamp: u64) -> bool {
-    HOST.read().unwrap().as_ref().and_then(|host| told(host.wait(stamp))).is_some()
+    told(HOST.read().unwrap().as_ref().unwrap().wait(stamp)).is_some()
 }
 
 #[no_mangle]

@@ -1,20 +1,21 @@
-/* A machine in memory, and what lives.c and a host give each other. */
-#ifndef SIM_H
-#define SIM_H
+/* What the parts of a life give each other. */
+#ifndef LIVES_H
+#define LIVES_H
 
 #include <stdbool.h>
 #include <stddef.h>
 #include <stdint.h>
 
-/* ---- sim.c: a disk with the one folder /sim, and threads of which one runs at a time, as a seed chooses ---- */
+/* ---- disk.c: the machine, and the calls on its disk ---- */
 
-enum call { OPENS, CREATES, READS, WRITES, SYNCS, NAMES, OTHER, ANY };
+enum call { OPENS, CREATES, READS, WRITES, SYNCS, NAMES, OTHER, MEMORY, ANY };
 
-/* Something happens at one of the calls of a kind, on files whose names have this in them: `left` counts down to it. */
+/* Something happens at one of the calls of a kind on files whose names have this in them, or so many calls later: `left`
+ * counts down to it. */
 struct event {
     enum call call;
     char of[8];
-    uint64_t left; /* 0: never */
+    uint64_t left, delay; /* 0, 0: never */
 };
 
 /* What the machine does with the next process, and what that has done. */
@@ -25,7 +26,7 @@ struct machine {
     bool fails_on;      /* also the next calls of this kind fail */
     uint64_t failures;  /* calls of this process that failed, but for those that are to be made again */
     bool needs_restart; /* one of them was a write or a sync */
-    uint64_t calls, failed, segments, checkpoints, deletions; /* in all */
+    unsigned long calls, failed, segments, checkpoints, deletions; /* in all */
     char why[200];      /* what was wrong */
 };
 extern struct machine *machine;
@@ -33,19 +34,28 @@ extern struct machine *machine;
 /* How a process ends. */
 enum { ENDED = 0, WRONG = 1, CRASHED = 2 };
 
-void sim_create(void);
-/* An empty disk, and the random numbers of this seed. */
-void sim_begin(uint64_t seed);
-/* What the last process left: all, or what a crash leaves. */
-void sim_restart(bool is_crash);
-uint64_t sim_random(uint64_t below);
-unsigned sim_open_files(void);
-/* So many files of the folder end so. */
-unsigned sim_files(const char *end);
+void create_machine(void);
+/* Gives it an empty disk, and the random numbers of this seed. */
+void begin_machine(uint64_t seed);
+/* Keeps what the last process left: all, or what a crash of the machine leaves. */
+void restart_machine(bool is_crash);
+uint64_t any_below(uint64_t most);
 /* Ends the process unless this is so. */
 void must(bool is_so, const char *format, ...);
+/* Memory is there until it is called again, as while the test reads a store. */
+void spare_memory(void);
+unsigned open_files(void);
+/* So many names end so. */
+unsigned names_with(const char *end);
+/* Begins a call: others may run, the machine may crash, or the call fails. Returns how, or 0. */
+int fails(enum call call, const char *what);
 
-/* ---- A host, in C or Rust ---- */
+/* ---- threads.c: threads of which one runs at a time ---- */
+
+/* Others may run. */
+void pass(void);
+
+/* ---- host_c.c or host_rust.rs: a host ---- */
 
 /* A key of the server. The value is empty if it has none. */
 struct entry {
@@ -53,7 +63,7 @@ struct entry {
     uint64_t version;
 };
 
-/* Each but the last three returns false if the host refuses or has failed. */
+/* Each returns false if the host refuses or has failed. */
 bool host_open(unsigned logs, uint64_t segment, uint64_t checkpoint, uint64_t *last);
 bool host_start(void);
 bool host_put(unsigned log, struct entry *entry); /* sets its version */
@@ -62,7 +72,7 @@ bool host_close(void);
 /* Whether another host opens the folder too. */
 bool host_shares(void);
 
-/* ---- lives.c ---- */
+/* ---- lives.c: the server ---- */
 
 /* The host has recovered this key. */
 void recovered(const char *key, size_t key_length, const char *value, size_t value_length);
