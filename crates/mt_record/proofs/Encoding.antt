@@ -12,7 +12,7 @@ use Rattle.mt_words.specs.Words.{AreColumns, AreNumbers}
 use Rattle.mt_words.specs.declared.record.Change.{Change}
 use Rattle.mt_words.specs.Changes.{Logged, IsLawful}
 use Rattle.mt_words.proofs.ColumnBytes.{columns_length}
-use Rattle.mt_record.specs.Spelling.{column_bytes, change_bytes, body_of, framed, IsRecordLength}
+use Rattle.mt_record.specs.Spelling.{column_bytes, kind_byte, kind_bytes, change_bytes, body_of, framed, IsRecordLength}
 use Rattle.mt_record.specs.Steps.Adding.{HasRoom, Adds}
 use Rattle.mt_record.proofs.Lawful.{put_fits, erase_fits, lawful_length}
 
@@ -71,6 +71,13 @@ adds_both {a = a} {xs = xs} {ys = ys} first then = record {
 pub adds_framed : {Z : Type 0} {old body : List ℕ} {n : ℕ} {a b c d : Vec ℕ Z} → n ≡ length body → a.items ≡ old → Adds (big_bytes 4 n) a b → Adds body b c
     → Adds (big_bytes 4 n) c d → d.items ≡ old ++ framed body
 adds_framed is same first second third = rw (← is, ← same) (adds_both first (adds_both second third)).items
+
+-- what comes before a record's key, the key, what its kind carries and the length again, appended in this order, append the record
+pub adds_record : {Z : Type 0} {old : List ℕ} {n : ℕ} {a b c d e : Vec ℕ Z} (timestamp : ℕ) (change : Change) → n ≡ length (body_of timestamp (Some change)) → a.items ≡ old
+    → Adds (big_bytes 4 n ++ (kind_byte change.kind ∷ (big_bytes 8 timestamp ++ (big_bytes 8 change.version ++ big_bytes 2 (length change.key))))) a b → Adds change.key b c
+    → Adds (kind_bytes change.kind) c d → Adds (big_bytes 4 n) d e → e.items ≡ old ++ framed (body_of timestamp (Some change))
+adds_record {old = old} {n = n} timestamp change is same head key kind last =
+    rw (← is, ← same, append_assoc change.key (kind_bytes change.kind) (big_bytes 4 n)) (adds_both head (adds_both key (adds_both kind last))).items
 
 -- there is room for one more column after the first ones
 pub column_room : {Z : Type 0} (cs : List (ℕ × List ℕ)) (i n : ℕ) (c : ℕ × List ℕ) (old out : Vec ℕ Z) → i < length cs → c ≡ get_or cs i c

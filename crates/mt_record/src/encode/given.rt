@@ -1,5 +1,6 @@
 //! Changes as a server gives them: they are lent for the call, and are checked and encoded where they stand.
-ghost use Rattle.std.specs.Prelude.{◌≡◌, ◌<◌, ◌^◌, ◌↔◌, ◌++◌, length, map, IsTrue, OnOk, OnErr};
+ghost use Rattle.std.specs.Prelude.{◌≡◌, ◌<◌, ◌^◌, ◌↔◌, ◌∷◌, ◌++◌, length, map, IsTrue, OnOk, OnErr};
+ghost use Rattle.byteorder.specs.Endian.{big_bytes};
 ghost use Rattle.mt_words.specs.Limits.{limits_of, widest};
 ghost use Rattle.mt_words.specs.Words.{AreColumns, AreNumbers};
 ghost use Rattle.mt_words.specs.Codes.{code_of};
@@ -56,12 +57,35 @@ pub fn encode_given(timestamp: u64, given: GivenChange<'_>, out: &mut Vec<u8>) -
 {
     let length = (9 + given.length()) as u32;
     out.reserve(4 + length as usize + 4)?;
-    put_bytes(&length.to_be_bytes(), out);
-    put_bytes(&[given.kind.code().byte()], out);
-    put_bytes(&timestamp.to_be_bytes(), out);
-    given.put(out);
+    let kind = given.kind.code().byte();
+    put_bytes(
+        &head_of(
+            length,
+            kind,
+            timestamp,
+            given.version,
+            given.key.len() as u16,
+        ),
+        out,
+    );
+    put_bytes(given.key, out);
+    given.kind.put(out);
     put_bytes(&length.to_be_bytes(), out);
     Ok(())
+}
+
+/// Returns the bytes of a record before its key.
+#[inline(always)]
+fn head_of(length: u32, kind: u8, timestamp: u64, version: u64, key: u16) -> [u8; 23]
+    ensures { result ≡ big_bytes 4 length ++ (kind ∷ (big_bytes 8 timestamp ++ (big_bytes 8 version ++ big_bytes 2 key))) }
+{
+    let [a, b, c, d] = length.to_be_bytes();
+    let [e, f, g, h, i, j, k, l] = timestamp.to_be_bytes();
+    let [m, n, o, p, q, r, s, t] = version.to_be_bytes();
+    let [u, v] = key.to_be_bytes();
+    [
+        a, b, c, d, kind, e, f, g, h, i, j, k, l, m, n, o, p, q, r, s, t, u, v,
+    ]
 }
 
 /// Appends the entry of a part with this change. Err: out of memory; nothing is appended.
@@ -220,6 +244,7 @@ fn put_column(column: Given<'_>, out: &mut Vec<u8>)
     requires room { HasRoom (length (column_bytes (column_of column))) out.old }
     ensures { Adds (column_bytes (column_of column.entry)) out.old out.new }
 {
-    put_bytes(&[column.number], out);
-    put_counted(column.bytes, out);
+    let [high, low] = (column.bytes.len() as u16).to_be_bytes();
+    put_bytes(&[column.number, high, low], out);
+    put_bytes(column.bytes, out);
 }
