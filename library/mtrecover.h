@@ -316,6 +316,43 @@ uint32_t mtr_keeper_add(mtr_place *keeper, const uint8_t *log, size_t length, si
  * worker is written. */
 uint32_t mtr_keeper_resumed(mtr_place *keeper);
 
+/* Logs that threads append to at once, without a lock. A keeper lends its logs to a crew, which hands each of them to one
+ * thread: a worker, which one thread at a time uses. Meanwhile the place holds the crew, and no keeper: keeper calls answer
+ * WRONG. To create, rotate or delete logs, or to make a checkpoint, join all workers and close the crew: no write need end
+ * before. Then lend again.
+ *
+ * Lends all logs that take records. DONE: the place holds the crew. FULL: there are more than 65,536 logs, or the last
+ * stamp is 2^63 or above. Not DONE: the place is as before. */
+uint32_t mtr_keeper_lend(mtr_place *keeper);
+
+/* Hands out a log, into the empty place `worker`. ABSENT: all are handed out. WRONG: `crew` holds no crew, or `worker` is
+ * not empty. Not DONE: both places are as before. */
+uint32_t mtr_crew_hire(mtr_place *crew, mtr_place *worker);
+
+/* What a worker does with its log, as the calls of a keeper do: stamps of all threads rise in one order. FULL: also if it has
+ * drawn 2^44 stamps. A put, remove or erase that is refused may lose a stamp. mtr_worker_failed: the keeper fails once the
+ * log is back. WRONG: also if the place holds no worker. */
+uint32_t mtr_worker_log(mtr_place *worker, size_t *log);
+uint32_t mtr_worker_put(mtr_place *worker, const uint8_t *key, size_t key_length, const mtr_column *columns,
+                        size_t column_count, uint64_t *stamp);
+uint32_t mtr_worker_remove(mtr_place *worker, const uint8_t *key, size_t key_length, uint64_t *stamp);
+uint32_t mtr_worker_erase(mtr_place *worker, const uint8_t *key, size_t key_length, const uint8_t *numbers,
+                          size_t number_count, uint64_t *stamp);
+uint32_t mtr_worker_mark(mtr_place *worker);
+uint32_t mtr_worker_take(mtr_place *worker, mtr_place *buffer, mtr_lent *lent);
+uint32_t mtr_worker_synced(mtr_place *worker);
+uint32_t mtr_worker_failed(mtr_place *worker);
+uint32_t mtr_worker_acknowledged(mtr_place *worker, uint64_t *below);
+
+/* Takes a log back, and empties `worker`. The one that was handed out last comes back first, to its own crew: a worker of
+ * another crew is the caller's fault, and is not always found out. WRONG: `crew` holds no crew, or `worker` not the log
+ * that is next. Not DONE: both places are as before. Never MEMORY. */
+uint32_t mtr_crew_join(mtr_place *crew, mtr_place *worker);
+
+/* Puts the keeper in the place of its crew. EARLY: a log is handed out. WRONG: the place holds no crew. Not DONE: it is as
+ * before. */
+uint32_t mtr_crew_close(mtr_place *crew);
+
 /* Each of the following functions writes one encoding. `format` is that of the file that it is for, whose header says it:
  *
  *   format | of              | keys, up to | columns | values, up to | erases

@@ -1,5 +1,5 @@
-/* Threads recover one log, 1 to 8 of them, and four read its store, each by a place of its own. The last line is 'N passed,
- * M failed'. */
+/* Threads recover one log, 1 to 8 of them, and four read its store, each by a place of its own. Four append to the logs of
+ * one keeper, and all that one may acknowledge is recovered. The last line is 'N passed, M failed'. */
 #include "mtrecover.h"
 #include <pthread.h>
 #include <stdio.h>
@@ -105,6 +105,122 @@ static void *read_all(void *given) {
     return NULL;
 }
 
+struct writer {
+    pthread_t thread;
+    mtr_place worker, buffer;
+    unsigned number;
+    uint8_t file[64 * KEYS];
+    size_t length;
+    uint64_t last;
+    bool is_done;
+};
+
+static struct writer writers[THREADS];
+
+/* Appends all that the worker's log took to its file. */
+static bool sync_log(struct writer *me) {
+    mtr_lent lent;
+    if (mtr_worker_take(&me->worker, &me->buffer, &lent) != MTR_DONE)
+        return false;
+    memcpy(me->file + me->length, lent.at, lent.length);
+    me->length += lent.length;
+    return mtr_worker_synced(&me->worker) == MTR_DONE;
+}
+
+/* Puts each fourth key, while others put theirs. Stamps rise. */
+static void *write_keys(void *given) {
+    struct writer *me = given;
+    bool is_done = true;
+    for (unsigned n = 1 + me->number; is_done && n <= KEYS; n += THREADS) {
+        uint8_t key[KEY];
+        uint64_t stamp = 0;
+        mtr_column column = {0, {key, key_of(n, key)}};
+        is_done = mtr_worker_put(&me->worker, key, column.value.length, &column, 1, &stamp) == MTR_DONE &&
+                  stamp > me->last && (n % 25 != 0 || sync_log(me));
+        me->last = stamp;
+    }
+    me->is_done = is_done && sync_log(me);
+    return NULL;
+}
+
+/* Creates the log of this number, whose file the writer of this number keeps. */
+static bool create(mtr_place *keeper, size_t log) {
+    struct writer *writer = &writers[log];
+    return mtr_log_bytes(keeper, log, writer->file, sizeof writer->file, &writer->length) == MTR_DONE &&
+           mtr_log_created(keeper, log) == MTR_DONE;
+}
+
+/* Begins a keeper of a log for each writer, and lends them. */
+static bool lend_logs(mtr_place *keeper) {
+    size_t log = 0;
+    bool is_done = mtr_keeper_begin(keeper) == MTR_DONE && create(keeper, 0);
+    while (is_done && log + 1 < THREADS)
+        is_done = mtr_log_begin(keeper, &log) == MTR_DONE && create(keeper, log);
+    is_done = is_done && mtr_keeper_lend(keeper) == MTR_DONE;
+    for (unsigned n = 0; is_done && n < THREADS; n++) {
+        mtr_place worker = {0};
+        is_done = mtr_crew_hire(keeper, &worker) == MTR_DONE && mtr_worker_log(&worker, &log) == MTR_DONE;
+        writers[log].worker = worker;
+        writers[log].number = (unsigned)log;
+    }
+    return is_done;
+}
+
+/* Lets each writer's thread put its keys. */
+static bool write_at_once(void) {
+    bool is_done = true;
+    for (unsigned n = 0; n < THREADS; n++)
+        is_done = pthread_create(&writers[n].thread, NULL, write_keys, &writers[n]) == 0 && is_done;
+    for (unsigned n = 0; n < THREADS; n++)
+        is_done = pthread_join(writers[n].thread, NULL) == 0 && writers[n].is_done && is_done;
+    return is_done;
+}
+
+/* Whether all may be acknowledged once each log has synced a mark. */
+static bool is_acknowledged(void) {
+    bool is_so = true;
+    uint64_t below = 0;
+    for (unsigned n = 0; n < THREADS; n++)
+        is_so = mtr_worker_mark(&writers[n].worker) == MTR_DONE && sync_log(&writers[n]) && is_so;
+    is_so = mtr_worker_acknowledged(&writers[0].worker, &below) == MTR_DONE && is_so;
+    for (unsigned n = 0; n < THREADS; n++)
+        is_so = below > writers[n].last && is_so;
+    return is_so;
+}
+
+/* Takes the logs back. Meanwhile there is no keeper. */
+static bool close_crew(mtr_place *keeper) {
+    mtr_place other = {0};
+    bool is_done = mtr_crew_hire(keeper, &other) == MTR_ABSENT && mtr_log_mark(keeper, 0) == MTR_WRONG &&
+                   mtr_crew_join(keeper, &other) == MTR_WRONG && mtr_crew_close(keeper) == MTR_EARLY;
+    for (unsigned n = 0; is_done && n < THREADS; n++)
+        is_done = mtr_crew_join(keeper, &writers[n].worker) == MTR_DONE;
+    return is_done && mtr_crew_close(keeper) == MTR_DONE && mtr_log_mark(keeper, 0) == MTR_DONE;
+}
+
+/* Recovers from the writers' files. */
+static bool recover_files(mtr_place *store) {
+    mtr_fault fault;
+    bool is_done = true;
+    for (unsigned n = 0; is_done && n < THREADS; n++) {
+        mtr_place feed = {0};
+        is_done = mtr_feed_log(&feed) == MTR_DONE && mtr_feed(&feed, writers[n].file, writers[n].length) == MTR_DONE &&
+                  mtr_add(store, &feed) == MTR_DONE;
+        mtr_free(&writers[n].buffer);
+    }
+    return is_done && mtr_recover(store, &fault) == MTR_DONE;
+}
+
+/* Lets threads put all keys into logs of one keeper, and recovers them. */
+static void append_at_once(unsigned *passed, unsigned *failed) {
+    mtr_place keeper = {0}, store = {0};
+    lend_logs(&keeper) && write_at_once() && is_acknowledged() ? ++*passed : ++*failed;
+    close_crew(&keeper) ? ++*passed : ++*failed;
+    recover_files(&store) && walks(&store) ? ++*passed : ++*failed;
+    mtr_free(&keeper);
+    mtr_free(&store);
+}
+
 int main(void) {
     static struct reader readers[THREADS];
     mtr_place store = {0};
@@ -123,6 +239,7 @@ int main(void) {
         failed += readers[n].failed;
     }
     mtr_free(&store);
+    append_at_once(&passed, &failed);
     printf("%u passed, %u failed\n", passed, failed);
     return failed != 0;
 }

@@ -270,6 +270,33 @@ extern "C" {
     pub fn mtr_keeper_resume(keeper: *mut RawPlace, store: *mut RawPlace, number: u32) -> u32;
     pub fn mtr_keeper_add(keeper: *mut RawPlace, log: *const u8, length: usize, number: *mut usize) -> u32;
     pub fn mtr_keeper_resumed(keeper: *mut RawPlace) -> u32;
+    pub fn mtr_keeper_lend(keeper: *mut RawPlace) -> u32;
+    pub fn mtr_crew_hire(crew: *mut RawPlace, worker: *mut RawPlace) -> u32;
+    pub fn mtr_crew_join(crew: *mut RawPlace, worker: *mut RawPlace) -> u32;
+    pub fn mtr_crew_close(crew: *mut RawPlace) -> u32;
+    pub fn mtr_worker_log(worker: *mut RawPlace, log: *mut usize) -> u32;
+    pub fn mtr_worker_put(
+        worker: *mut RawPlace,
+        key: *const u8,
+        key_length: usize,
+        columns: *const Column,
+        column_count: usize,
+        stamp: *mut u64,
+    ) -> u32;
+    pub fn mtr_worker_remove(worker: *mut RawPlace, key: *const u8, key_length: usize, stamp: *mut u64) -> u32;
+    pub fn mtr_worker_erase(
+        worker: *mut RawPlace,
+        key: *const u8,
+        key_length: usize,
+        numbers: *const u8,
+        number_count: usize,
+        stamp: *mut u64,
+    ) -> u32;
+    pub fn mtr_worker_mark(worker: *mut RawPlace) -> u32;
+    pub fn mtr_worker_take(worker: *mut RawPlace, buffer: *mut RawPlace, lent: *mut RawLent) -> u32;
+    pub fn mtr_worker_synced(worker: *mut RawPlace) -> u32;
+    pub fn mtr_worker_failed(worker: *mut RawPlace) -> u32;
+    pub fn mtr_worker_acknowledged(worker: *mut RawPlace, below: *mut u64) -> u32;
     pub fn mtr_log_begin(keeper: *mut RawPlace, log: *mut usize) -> u32;
     pub fn mtr_log_rotate(keeper: *mut RawPlace, log: usize, next: *mut usize) -> u32;
     pub fn mtr_log_segment(keeper: *mut RawPlace, log: usize, worker: *mut u32, segment: *mut u32) -> u32;

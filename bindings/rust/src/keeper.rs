@@ -1,5 +1,6 @@
 //! The keeper of a server's logs.
 
+use alloc::sync::Arc;
 use alloc::vec::Vec;
 use core::error::Error as StdError;
 use core::fmt::{self, Display, Formatter};
@@ -12,7 +13,8 @@ use crate::records::append;
 use crate::{OutOfMemory, Store};
 
 /// Keeps the logs of a server, so that a crash loses nothing that it acknowledged. It owns no file: it gives bytes, and is
-/// told what became of them ([`host`](crate::host) is the host's half). A server with threads calls it under a lock.
+/// told what became of them ([`host`](crate::host) is the host's half). A server with threads calls it under a lock, or lends
+/// its logs to them ([`Keeper::lend`]).
 ///
 /// A worker's log is a row of files, its segments. Each is a [`NewLog`] until it is created, then a [`Log`] until the next
 /// one follows, and an [`OldLog`] when it is to be deleted. A call that is given a log of another keeper may answer
@@ -95,6 +97,22 @@ pub struct Taken<'b> {
     bytes: &'b [u8],
 }
 
+/// A keeper that lent its logs, until each is back.
+#[derive(Debug)]
+pub struct Crew {
+    place: Place,
+    /// The numbers of the logs that are handed out, and what their workers share with no other.
+    out: Vec<Arc<usize>>,
+}
+
+/// A log that a keeper lent to a thread, which appends to it without a lock. Its calls are those of a keeper.
+#[must_use]
+#[derive(Debug)]
+pub struct Worker {
+    place: Place,
+    log: Arc<usize>,
+}
+
 /// A checkpoint that is being made. Both numbers stand in the headers of its parts.
 #[derive(Clone, Copy, Debug, PartialEq, Eq)]
 pub struct Checkpoint {
@@ -158,7 +176,7 @@ unsafe fn lent<'b>(raw: RawLent) -> &'b [u8] {
     }
 }
 
-// SAFETY, also below: slices are lent for the call, a keeper's place holds a keeper, and a buffer's nothing or bytes.
+// SAFETY, also below: slices are lent for the call, places hold what their type says, and a buffer's nothing or bytes.
 
 impl Keeper {
     /// The keeper of an empty folder, and its first log. It takes no other log until this one is created.
@@ -268,6 +286,32 @@ impl Keeper {
         unsafe { c::mtr_keeper_failed(self.0.raw()) };
     }
 
+    /// Lends its logs, so that threads append at once. To create, rotate or delete logs, or to make a checkpoint, take all
+    /// back and close the crew, and lend again. `Full`: there are more than 65,536 logs, or the last stamp is 2^63 or above.
+    ///
+    /// ```
+    /// # use mtrecover::{Keeper, records::Column};
+    /// let (mut keeper, first) = Keeper::begin()?;
+    /// let log = keeper.created(first)?;
+    /// let mut crew = keeper.lend().map_err(|(_, error)| error)?;
+    /// let mut worker = crew.hire()?.expect("the worker of the log");
+    /// let thread = std::thread::spawn(move || {
+    ///     let stamp = worker.put(b"fig", &[Column::new(0, b"green")]);
+    ///     (worker, stamp)
+    /// });
+    /// let (worker, stamp) = thread.join().unwrap();
+    /// crew.join(worker).map_err(|(_, error)| error)?;
+    /// let mut keeper = crew.close().map_err(|(_, error)| error)?;
+    /// assert!(keeper.remove(&log, b"fig")? > stamp?);
+    /// # Ok::<(), Box<dyn std::error::Error>>(())
+    /// ```
+    pub fn lend(self) -> Result<Crew, (Keeper, KeeperError)> {
+        match answered(unsafe { c::mtr_keeper_lend(self.0.raw()) }) {
+            Ok(()) => Ok(Crew { place: self.0, out: Vec::new() }),
+            Err(error) => Err((self, error)),
+        }
+    }
+
     /// All updates with stamps below this one may be acknowledged, or shown.
     pub fn acknowledged_below(&self) -> u64 {
         let mut below = 0;
@@ -315,6 +359,112 @@ impl Keeper {
     /// Notes that the file of the log is deleted, and the folder synced.
     pub fn deleted(&mut self, old: OldLog) -> Result<(), KeeperError> {
         answered(unsafe { c::mtr_log_deleted(self.0.raw(), old.number) })
+    }
+}
+
+impl Crew {
+    /// Hands out a log, for one thread. `None`: all are handed out.
+    pub fn hire(&mut self) -> Result<Option<Worker>, OutOfMemory> {
+        let (place, mut log) = (Place::empty(), 0);
+        match unsafe { c::mtr_crew_hire(self.place.raw(), place.raw()) } {
+            c::ABSENT => return Ok(None),
+            status => done(status)?,
+        }
+        unsafe { c::mtr_worker_log(place.raw(), &mut log) };
+        let log = Arc::new(log);
+        self.out.push(Arc::clone(&log));
+        Ok(Some(Worker { place, log }))
+    }
+
+    /// Takes a log back: the one that was handed out last comes back first. `NotLawful`: it is another.
+    pub fn join(&mut self, worker: Worker) -> Result<(), (Worker, KeeperError)> {
+        if !self.out.last().is_some_and(|last| Arc::ptr_eq(last, &worker.log)) {
+            return Err((worker, KeeperError::NotLawful));
+        }
+        // SAFETY: the worker is this crew's.
+        match answered(unsafe { c::mtr_crew_join(self.place.raw(), worker.place.raw()) }) {
+            Ok(()) => {
+                self.out.pop();
+                Ok(())
+            }
+            Err(error) => Err((worker, error)),
+        }
+    }
+
+    /// Returns the keeper. `Early`: a log is handed out.
+    pub fn close(self) -> Result<Keeper, (Crew, KeeperError)> {
+        match answered(unsafe { c::mtr_crew_close(self.place.raw()) }) {
+            Ok(()) => Ok(Keeper(self.place)),
+            Err(error) => Err((self, error)),
+        }
+    }
+}
+
+impl Worker {
+    /// Whether it is the worker of this log.
+    pub fn has(&self, log: &Log) -> bool {
+        *self.log == log.number
+    }
+
+    /// As [`Keeper::put`]: stamps of all threads rise in one order. `Full`: it has drawn 2^44 stamps, or the log has no room.
+    pub fn put(&mut self, key: &[u8], columns: &[Column]) -> Result<u64, KeeperError> {
+        let (length, n) = (key.len(), columns.len());
+        self.stamp(|worker, stamp| unsafe {
+            c::mtr_worker_put(worker, key.as_ptr(), length, columns.as_ptr(), n, stamp)
+        })
+    }
+
+    /// As [`Keeper::remove`].
+    pub fn remove(&mut self, key: &[u8]) -> Result<u64, KeeperError> {
+        self.stamp(|worker, stamp| unsafe { c::mtr_worker_remove(worker, key.as_ptr(), key.len(), stamp) })
+    }
+
+    /// As [`Keeper::erase`].
+    pub fn erase(&mut self, key: &[u8], numbers: &[u8]) -> Result<u64, KeeperError> {
+        let (length, n) = (key.len(), numbers.len());
+        self.stamp(|worker, stamp| unsafe {
+            c::mtr_worker_erase(worker, key.as_ptr(), length, numbers.as_ptr(), n, stamp)
+        })
+    }
+
+    /// Returns the stamp that a call tells.
+    fn stamp(&mut self, call: impl FnOnce(*mut c::RawPlace, *mut u64) -> u32) -> Result<u64, KeeperError> {
+        let mut stamp = 0;
+        answered(call(self.place.raw(), &mut stamp))?;
+        Ok(stamp)
+    }
+
+    /// As [`Keeper::mark`].
+    pub fn mark(&mut self) -> Result<(), KeeperError> {
+        answered(unsafe { c::mtr_worker_mark(self.place.raw()) })
+    }
+
+    /// As [`Keeper::take`].
+    pub fn take<'b>(&mut self, buffer: &'b mut Buffer) -> Result<Taken<'b>, KeeperError> {
+        let mut raw = NOTHING;
+        answered(unsafe { c::mtr_worker_take(self.place.raw(), buffer.0.raw(), &mut raw) })?;
+        // SAFETY: the buffer is borrowed for `'b`.
+        Ok(Taken { number: *self.log, bytes: unsafe { lent(raw) } })
+    }
+
+    /// As [`Keeper::synced`]. `NotLawful`: these are bytes of another log.
+    pub fn synced(&mut self, taken: Taken) -> Result<(), KeeperError> {
+        if taken.number != *self.log {
+            return Err(KeeperError::NotLawful);
+        }
+        answered(unsafe { c::mtr_worker_synced(self.place.raw()) })
+    }
+
+    /// Notes that a write or a sync failed: the worker takes nothing more, and the keeper fails once the log is back.
+    pub fn failed(&mut self) {
+        unsafe { c::mtr_worker_failed(self.place.raw()) };
+    }
+
+    /// All updates of all threads with stamps below this one may be acknowledged, or shown.
+    pub fn acknowledged_below(&mut self) -> u64 {
+        let mut below = 0;
+        unsafe { c::mtr_worker_acknowledged(self.place.raw(), &mut below) };
+        below
     }
 }
 

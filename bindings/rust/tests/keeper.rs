@@ -1,6 +1,6 @@
 //! The keeper of logs: what its types let a server do. What its calls answer is proved, and `library/test.c` shows it.
 
-use mtrecover::keeper::{Buffer, Keeper, KeeperError, Log, NewLog, Segment};
+use mtrecover::keeper::{Buffer, Keeper, KeeperError, Log, NewLog, Segment, Worker};
 use mtrecover::records::{self, Column};
 
 /// A keeper whose first log may be written, and the bytes of its file.
@@ -118,6 +118,68 @@ fn a_checkpoint_is_given_up() {
     assert_eq!(keeper.begin_checkpoint(), Err(KeeperError::Early));
     keeper.abandon_checkpoint().unwrap();
     assert_eq!(keeper.begin_checkpoint().unwrap().number, 2);
+}
+
+/// Puts keys that begin with a letter, and syncs them with a mark. Returns the last stamp.
+fn put_often(worker: &mut Worker, letter: &str, file: &mut Vec<u8>) -> u64 {
+    let mut last = 0;
+    for n in 0..1000 {
+        let stamp = worker.put(format!("{letter}{n}").as_bytes(), &[Column::new(0, b"v")]).unwrap();
+        assert!(stamp > last);
+        last = stamp;
+    }
+    worker.mark().unwrap();
+    let mut buffer = Buffer::new();
+    let taken = worker.take(&mut buffer).unwrap();
+    file.extend_from_slice(&taken);
+    worker.synced(taken).unwrap();
+    last
+}
+
+#[test]
+fn threads_append_at_once() {
+    let (mut keeper, log, mut first) = keeper();
+    let new = keeper.begin_log().unwrap();
+    let mut second = new.bytes().to_vec();
+    let other = keeper.created(new).unwrap();
+    let mut crew = keeper.lend().map_err(|(_, error)| error).unwrap();
+    let mut two = crew.hire().unwrap().unwrap();
+    let mut one = crew.hire().unwrap().unwrap();
+    assert!(crew.hire().unwrap().is_none());
+    assert!(one.has(&log) && two.has(&other));
+    let (a, b) = std::thread::scope(|threads| {
+        let other = threads.spawn(|| put_often(&mut two, "b", &mut second));
+        (put_often(&mut one, "a", &mut first), other.join().unwrap())
+    });
+    one.mark().unwrap();
+    two.mark().unwrap();
+    for (worker, file) in [(&mut one, &mut first), (&mut two, &mut second)] {
+        let mut buffer = Buffer::new();
+        let taken = worker.take(&mut buffer).unwrap();
+        file.extend_from_slice(&taken);
+        worker.synced(taken).unwrap();
+    }
+    assert_eq!(two.acknowledged_below(), a.max(b) + 1);
+    crew.join(one).map_err(|(_, error)| error).unwrap();
+    crew.join(two).map_err(|(_, error)| error).unwrap();
+    let mut keeper = crew.close().map_err(|(_, error)| error).unwrap();
+    assert_eq!(put(&mut keeper, &log, "c"), 2002);
+    let store = mtrecover::recover(&[&first, &second], &[]).unwrap();
+    assert!(store.contains_key(b"a999") && store.contains_key(b"b999"));
+}
+
+#[test]
+fn a_crew_closes_once_its_own_logs_are_back() {
+    let mut crews = [0, 1].map(|_| keeper().0.lend().map_err(|(_, error)| error).unwrap());
+    let one = crews[0].hire().unwrap().unwrap();
+    let other = crews[1].hire().unwrap().unwrap();
+    let [mut crew, _] = crews;
+    let (_, error) = crew.join(other).err().unwrap();
+    assert_eq!(error, KeeperError::NotLawful);
+    let (mut crew, error) = crew.close().err().unwrap();
+    assert_eq!(error, KeeperError::Early);
+    crew.join(one).map_err(|(_, error)| error).unwrap();
+    assert!(crew.close().is_ok());
 }
 
 #[test]

@@ -11,6 +11,9 @@ use Rattle.mt_keeper.specs.Keeping.{Keeping, Holds}
 use Rattle.mt_keeper.specs.Calling.{Steps}
 use Rattle.mt_keeper.specs.Refusals.{IsAt}
 use Rattle.mt_writer.specs.Journals.{NewFile}
+use Rattle.mt_keeper.specs.Crews.{CrewView, Deed}
+use Rattle.mt_c.specs.Loans.{LoanView, Awaits, Hires, Did}
+use Rattle.mt_c.specs.Borrowing.{BorrowerView}
 use Rattle.mt_c.specs.declared.held.Held.{Held}
 use Rattle.mt_c.specs.declared.held.Held.TheVariants as held
 use Rattle.mt_c.specs.declared.lent.Lent.{Lent}
@@ -93,3 +96,43 @@ abbrev pub HoldsSomeBytes : Option Held → Type 0
 HoldsSomeBytes None = Unit {0}
 HoldsSomeBytes (Some (held.Bytes bytes)) = Unit {0}
 HoldsSomeBytes (Some other) = ⊥
+
+-- ---- loans
+
+-- the place holds a loan for which P is true
+abbrev pub HoldsLoan : (LoanView → Type 0) → Option Held → Type 0
+HoldsLoan P (Some (held.Loan loan)) = P loan
+HoldsLoan P place = ⊥
+
+-- the place holds a borrower for which P is true
+abbrev pub HoldsBorrower : (BorrowerView → Type 0) → Option Held → Type 0
+HoldsBorrower P (Some (held.Borrower borrower)) = P borrower
+HoldsBorrower P place = ⊥
+
+abbrev pub IsAnyLoan : Held → Type 0
+IsAnyLoan (held.Loan loan) = Unit {0}
+IsAnyLoan other = ⊥
+
+abbrev pub IsAnyBorrower : Held → Type 0
+IsAnyBorrower (held.Borrower borrower) = Unit {0}
+IsAnyBorrower other = ⊥
+
+-- the place holds the borrower of this crew with this number, whose thread has done these deeds with its log
+abbrev pub HoldsDeeds : CrewView → (number : ℕ) → List Deed → Option Held → Type 0
+HoldsDeeds crew number deeds place = HoldsBorrower (Did crew number deeds) place
+
+-- a loan has handed out a log, which the other place holds
+pub record IsHired (before : LoanView) (loan worker : Option Held) : Type 0 where
+  pub after : LoanView
+  pub loan_is : HoldsLoan (λ held. held ≡ after) loan
+  pub hired : BorrowerView
+  pub worker_is : HoldsBorrower (λ held. held ≡ hired) worker
+  pub hires : Hires before after hired
+
+-- the first place holds a loan that waits for the borrower in the second
+abbrev pub HoldsNext : Option Held → Option Held → Type 0
+HoldsNext loan worker = HoldsLoan (λ l. HoldsBorrower (Awaits l) worker) loan
+
+-- a lent log refuses a call, by this reason
+abbrev pub IsLentRefusal : (KeeperFault → Type 0) → ℕ → Type 0
+IsLentRefusal Refuses status = (fault : KeeperFault) × Refuses fault × (status ≡ fault_status fault)

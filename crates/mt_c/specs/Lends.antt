@@ -1,8 +1,11 @@
 -- What becomes of a place whose value is lent.
-use Rattle.std.specs.Prelude.{◌≡◌, true, refl, ⊤, Option, Some}
+use Rattle.std.specs.Prelude.{◌≡◌, true, refl, ⊤, Option, Some, IsSome}
 use mathlib.Core.Option.{none}
-use Rattle.std.specs.Borrow.{Lends, LendsIf, MutBor, Fml, follows_so}
+use Rattle.std.specs.Borrow.{Lends, LendsIf, LendsSo, MutBor, Fml, follows_so}
+use Rattle.mt_c.specs.Borrowing.{BorrowerView}
+use Rattle.mt_c.specs.contracts.borrower.Borrower as borrower
 use Rattle.mt_c.specs.declared.held.Held.{Held}
+use Rattle.mt_c.specs.declared.held.Held.TheVariants as held
 use Rattle.mt_c.specs.contracts.held.Held.{the_row}
 use Rattle.mt_c.specs.declared.place.Handle.{Handle}
 use Rattle.mt_c.specs.contracts.place.Handle as handle
@@ -20,6 +23,10 @@ with_held p w = record { handle = record p.handle { value = Some w }; full = tru
 -- once the borrow r ends, the place behind p has its last value
 abbrev pub PlaceLends : MutBor Place → Option (MutBor Held) → Fml
 PlaceLends p r = LendsIf place.the_row the_row p r (with_held p.now) p.now
+
+-- once the borrow r ends, the place behind p holds the borrower with its last value
+abbrev pub BorrowerLends : MutBor Place → Option (MutBor BorrowerView) → Fml
+BorrowerLends p r = LendsSo place.the_row borrower.the_row p r (λ n w. IsSome r → n.handle.value ≡ Some (held.Borrower w)) (λ n. n.handle.value ≡ p.now.handle.value)
 
 -- the place behind p stays as it is
 abbrev pub PlaceStays : MutBor Place → Fml

@@ -1,4 +1,5 @@
 pub mod Added
+pub mod Borrowing
 pub mod Buffers
 pub mod Filling
 pub mod Flat
@@ -8,6 +9,7 @@ pub mod Holding
 pub mod Jobs
 pub mod Keepers
 pub mod Lends
+pub mod Loans
 pub mod Ranges
 pub mod Reports
 pub mod Resumes

@@ -1,7 +1,9 @@
 //! What a place holds.
+use crate::borrower::Borrower;
 use crate::feeds::{FedLog, FedPart};
 use crate::inputs::Inputs;
 use crate::job::Job;
+use crate::loan::Loan;
 use crate::task::Worker;
 use mt_keeper::{First, Keeper, Restart};
 use mt_recover::{Hit, Recovered};
@@ -30,6 +32,10 @@ pub enum Held {
     Restart(Restart),
     /// A keeper of logs.
     Keeper(Keeper),
+    /// A keeper that lent its logs.
+    Loan(Loan),
+    /// A log that a keeper lent, for one thread.
+    Borrower(Borrower),
     /// Bytes that were taken of a log.
     Bytes(Vec<u8>),
 }

@@ -12,8 +12,10 @@
 #![tactic(auto)]
 
 mod bare;
+mod borrower;
 mod buffer;
 mod checkpoints;
+mod crewing;
 mod dumping;
 mod fault;
 mod feeding;
@@ -28,6 +30,7 @@ mod inputs;
 mod job;
 mod keeping;
 mod lent;
+mod loan;
 mod parts;
 mod place;
 mod querying;
@@ -42,4 +45,5 @@ mod segments;
 mod status;
 mod task;
 mod telling;
+mod working;
 mod writing;

@@ -3,10 +3,14 @@
 ghost use Rattle.std.specs.Prelude.{◌≡◌, None, Some, IfSome, IsNone, IsSome, MatchOption, true, false};
 ghost use Rattle.std.specs.Borrow.{sem};
 ghost use Rattle.std.specs.Fn.{FnOnceReturnsAt};
-ghost use Rattle.mt_c.specs.Lends.{HandleLends, PlaceLends, PlaceStays};
+ghost use Rattle.mt_c.specs.Holding.{Holds};
+ghost use Rattle.mt_c.specs.Keepers.{IsAnyBorrower};
+ghost use Rattle.mt_c.specs.Lends.{BorrowerLends, HandleLends, PlaceLends, PlaceStays};
+ghost use Rattle.mt_c.specs.declared.held.Held.TheVariants as held;
 ghost use Rattle.mt_c.specs.declared.held.Held.{Held as HeldValue};
 
 use super::{Handle, Place};
+use crate::borrower::Borrower;
 use crate::held::Held;
 use std::alloc::Global;
 
@@ -32,6 +36,20 @@ impl Place {
         } else {
             None
         }
+    }
+
+    /// Lends the borrower that the place holds. None: it holds none.
+    pub fn borrower_mut(&mut self) -> Option<&mut Borrower>
+        ensures* writes_back { sem 𝓛 (BorrowerLends self.entry result) }
+        ensures value { MatchOption result (Holds IsAnyBorrower self.old.handle.value → ⊥) (λ borrower. self.old.handle.value ≡ Some (held.Borrower borrower.now)) }
+    {
+        let Some(held) = self.held_mut() else {
+            return None;
+        };
+        let Held::Borrower(borrower) = held else {
+            return None;
+        };
+        Some(borrower)
     }
 
     /// Reads what the place holds, or None if it is empty. The place stays as it is.

@@ -4,7 +4,7 @@ use mir.Raw.{raw}
 use base.Shift.{Keyless}
 use denote.Memory.{lone}
 use denote.RawPtr.{Ptr}
-use denote.Param.Send.{IsSend, IsSync, owning_send, struct_send, sendable}
+use denote.Param.Send.{IsSend, IsSync, owning_send, struct_send, view_send, sendable}
 use denote.Param.SendFields.{declared_send, variants_send}
 use denote.Builtin.{RawPtr}
 use denote.Struct.Struct.{exits_of}
@@ -30,6 +30,12 @@ use Rattle.mt_recover.proofs.Sending.{replayed_send}
 use Rattle.mt_keeper.proofs.first.First.TheSendSync as first
 use Rattle.mt_keeper.proofs.resuming.Restart.TheSendSync as restart
 use Rattle.mt_keeper.proofs.keeper.Keeper.TheSendSync as keeper
+use Rattle.mt_keeper.proofs.Sending.{crew_send, crew_sync, lent_log_send}
+use Rattle.mt_c.specs.contracts.loan.Shared as shared
+use Rattle.mt_c.specs.contracts.loan.Loan as loan
+use Rattle.mt_c.specs.contracts.loan.Loan.TheInside as loan_inside
+use Rattle.mt_c.specs.contracts.borrower.Borrower as borrower
+use Rattle.mt_c.specs.contracts.borrower.Borrower.TheInside as borrower_inside
 use Rattle.mt_c.specs.contracts.feeds.FedLog as log
 use Rattle.mt_c.specs.contracts.feeds.FedPart as part
 use Rattle.mt_c.specs.contracts.inputs.Inputs as inputs
@@ -87,6 +93,21 @@ job_send = search (sendable, crosses, dividing_send, replaying_send, task_send) 
 worker_send : IsSend worker.the_row
 worker_send = declared_send worker.the_type (search (sendable, crosses), (task_send, tt))
 
+shared_send : IsSend shared.the_row
+shared_send = search (sendable, crosses, crew_send, crew_sync) depth 20 fits 20000
+
+loan_inside_send : IsSend loan_inside.the_row
+loan_inside_send = declared_send loan_inside.the_type (shared_send, (search (sendable, crosses), (search (sendable, crosses, lent_log_send) depth 20 fits 20000, tt)))
+
+loan_send : IsSend loan.the_row
+loan_send = view_send _ _ _ _ _ loan_inside_send
+
+borrower_inside_send : IsSend borrower_inside.the_row
+borrower_inside_send = declared_send borrower_inside.the_type (search (sendable, crosses, crew_send, crew_sync) depth 20 fits 20000, (search (sendable, crosses), (lent_log_send, tt)))
+
+borrower_send : IsSend borrower.the_row
+borrower_send = view_send _ _ _ _ _ borrower_inside_send
+
 held_send : IsSend held.the_row
 held_send = variants_send held.enum (
   (search (sendable, crosses, log_send) depth 20, tt),
@@ -109,8 +130,14 @@ held_send = variants_send held.enum (
                   (
                     (keeper.the_send, tt),
                     (
-                      (search (sendable, crosses) depth 20, tt),
-                      tt,
+                      (loan_send, tt),
+                      (
+                        (borrower_send, tt),
+                        (
+                          (search (sendable, crosses) depth 20, tt),
+                          tt,
+                        ),
+                      ),
                     ),
                   ),
                 ),
