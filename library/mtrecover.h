@@ -50,7 +50,7 @@ typedef struct mtr_place {
 /* Why there is no store. */
 typedef struct mtr_fault {
     uint32_t kind;   /* 1 no logs, 2 header, 3 record, 4 the log's device, 5 the part's device, 6 gap, 9 doubled, 10 torn */
-    uint32_t what;   /* of a record: 1 length, 2 trailer, 3 kind, 4 frame, 5 version, 6 key, 7 columns, 8 clock; else 0 */
+    uint32_t what;   /* of a record: 1 length, 2 trailer, 3 kind, 4 frame, 5 version, 6 key, 7 columns, 8 clock, 9 checksum; else 0 */
     uint64_t index;  /* the number of the log or part, or 0 */
     uint64_t record; /* of a record: how many complete records precede it; else 0 */
 } mtr_fault;
@@ -135,7 +135,8 @@ typedef struct mtr_report {
 uint32_t mtr_get_report(mtr_place *store, mtr_report *report);
 
 /* Where the complete records of a log end: the bytes of its header and of these records, of a log of 2^64 bytes or more
- * 2^64 - 1. ABSENT: there is no log of this number. Not DONE: *end is as before. Never MEMORY. */
+ * 2^64 - 1. Of a log of format 4 these are the bytes of the log of format 3 that stands in its blocks. ABSENT: there is no
+ * log of this number. Not DONE: *end is as before. Never MEMORY. */
 uint32_t mtr_report_end(mtr_place *store, size_t log, uint64_t *end);
 
 /* The number of the invalid checkpoint at position i, and the position of the nameless part at position i, from 0 on;
@@ -154,7 +155,7 @@ typedef struct mtr_resumed {
 /* What replaces a log if a server resumes after a recovery with this cutoff: its header, with a `from` of at most the
  * cutoff; its records below the cutoff; a mark at the cutoff; and the mark that ends the log, if it was ended. A new log
  * begins with mtr_log_header(1, 0, ..) and mtr_mark(cutoff, ..). DONE or SHORT: *resumed is told. Else it is as before.
- * FAULT: the bytes are no log. Never WRONG. */
+ * FAULT: the bytes are no log of formats 1 to 3. Never WRONG. */
 uint32_t mtr_resume_log(const uint8_t *log, size_t length, uint64_t cutoff, mtr_resumed *resumed, uint8_t *out,
                         size_t room, size_t *count);
 

@@ -41,10 +41,20 @@ pub enum What {
     Key,
     Columns,
     Clock,
+    Checksum,
 }
 
-const WHATS: [What; 8] =
-    [What::Length, What::Trailer, What::Kind, What::Frame, What::Version, What::Key, What::Columns, What::Clock];
+const WHATS: [What; 9] = [
+    What::Length,
+    What::Trailer,
+    What::Kind,
+    What::Frame,
+    What::Version,
+    What::Key,
+    What::Columns,
+    What::Clock,
+    What::Checksum,
+];
 
 impl Fault {
     pub(crate) fn from_raw(raw: RawFault) -> Fault {

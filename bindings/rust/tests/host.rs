@@ -1,4 +1,4 @@
-//! The host over a folder. `.ci/try_server` kills a server over it, and fails its calls.
+//! The host over a folder. `.ci/try_hosts` plays its lives.
 
 use mtrecover::host::{self, Host, HostError, Part, Settings};
 use mtrecover::records::Column;

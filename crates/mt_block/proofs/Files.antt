@@ -28,7 +28,7 @@ flat mark b bs rest = append_assoc (block mark b) (blocks mark bs) rest
 NoBlock : ℕ → List ℕ → Type 0
 NoBlock mark rest = (body after : List ℕ) → IsNext mark rest body after → ⊥
 
-same_block : (mark : ℕ) (b c x y : List ℕ) → IsBody b → IsBody c → block mark b ++ x ≡ block mark c ++ y → (b ≡ c) × (x ≡ y)
+pub same_block : (mark : ℕ) (b c x y : List ℕ) → IsBody b → IsBody c → block mark b ++ x ≡ block mark c ++ y → (b ≡ c) × (x ≡ y)
 same_block mark b c x y is other e =
     let h = same_heads mark (length b) (length c) (body_bytes mark b ++ x) (body_bytes mark c ++ y) is.1 other.1 (sym (block_apart mark b x) ∙ e ∙ block_apart mark c y) in
     let size : length (body_bytes mark b) ≡ length (body_bytes mark c) = codeword-length (head_crc mark (length b)) b ∙ ap (λ n. n + 4) h.0 ∙ sym (codeword-length (head_crc mark (length c)) c) in

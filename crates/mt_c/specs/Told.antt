@@ -19,6 +19,7 @@ what_number of_record.Version = 5
 what_number of_record.Key = 6
 what_number of_record.Columns = 7
 what_number of_record.Clock = 8
+what_number of_record.Checksum = 9
 
 -- the number of the log, part or piece that the fault names, or 0
 abbrev pub index_of : Fault → ℕ

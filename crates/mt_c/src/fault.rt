@@ -87,6 +87,7 @@ fn what_of(number: u32) -> Option<What>
         6 => What::Key,
         7 => What::Columns,
         8 => What::Clock,
+        9 => What::Checksum,
         _ => return None,
     })
 }
@@ -121,5 +122,6 @@ fn number_of(what: What) -> u32
         What::Key => 6,
         What::Columns => 7,
         What::Clock => 8,
+        What::Checksum => 9,
     }
 }

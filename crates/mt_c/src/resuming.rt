@@ -2,7 +2,7 @@
 ghost use Rattle.std.specs.Prelude.{◌≡◌, ◌≢◌, ◌↔◌, ◌∷◌, ◌++◌, [], List, ℕ, IsTrue, IfOk, IfSome, IfNone};
 ghost use Rattle.mt_words.specs.Built.{mark_of};
 ghost use Rattle.mt_record.specs.declared.read.FeedFault.{FeedFault};
-ghost use Rattle.mt_record.specs.LogFaults.{IsLogFault};
+ghost use Rattle.mt_record.specs.LogFaults.{IsTextFault};
 ghost use Rattle.mt_record.specs.Resuming.{greatest_timestamp};
 ghost use Rattle.mt_record.specs.Spelling.{spelling};
 ghost use Rattle.mt_c.specs.declared.status.TheConstants.{DONE, MEMORY, SHORT, FAULT};
@@ -31,7 +31,8 @@ pub struct Resumed {
 }
 
 /// Writes what replaces the log, if a server resumes after a recovery with this cutoff, to the beginning of `out`, and its
-/// length to `count`. `FAULT`: the bytes are no log.
+/// length to `count`. `FAULT`: the bytes are no log
+/// of formats 1 to 3.
 #[unsafe(no_mangle)]
 pub extern "C" fn mtr_resume_log(
     alloc: Global,
@@ -42,7 +43,7 @@ pub extern "C" fn mtr_resume_log(
     count: &mut usize,
 ) -> u32
     ensures written { result ≢ MEMORY → result ≢ FAULT → Resumes cutoff log.now resumed.new out.old out.new count.new result }
-    ensures fault { result ≡ FAULT → (fault : FeedFault) × IsLogFault log.now fault }
+    ensures fault { result ≡ FAULT → (fault : FeedFault) × IsTextFault log.now fault }
     ensures untold { result ≢ DONE → result ≢ SHORT → resumed.new ≡ resumed.old }
     ensures kept { result ≢ DONE → out.new ≡ out.old }
     ensures certain { IsOneOf (DONE ∷ MEMORY ∷ SHORT ∷ FAULT ∷ []) result }

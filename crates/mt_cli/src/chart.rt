@@ -300,7 +300,8 @@ impl<'a, R: Host> Run<'a, R> {
         Ok(chart.write(width.unwrap_or(USUAL_WIDTH) as usize, out)?)
     }
 
-    /// Returns the timestamp of the first record of the log of this name. None: it has none, or cannot be read again.
+    /// Returns the timestamp of the first record of the log of this name. None: it has none, is of format 4, or cannot be read
+    /// again.
     fn first_of(&self, name: &str) -> Result<Option<u64>, Memory> {
         let Some(file) = self.read_again(name, READ)? else {
             return Ok(None);

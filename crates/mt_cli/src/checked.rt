@@ -4,7 +4,7 @@ use crate::caveat::Losses;
 use crate::ending::Ending;
 use crate::fates::{Fate, PartState, numbers_of};
 use crate::row::{Cell, Field, write_row};
-use mt_record::{LogFront, Rest};
+use mt_record::{LogFront, Rest, Segment};
 use mt_recover::{LogCheck, Refusal, Start};
 use mt_words::Fault;
 use std::alloc::Global;
@@ -35,8 +35,10 @@ pub struct CheckedFile<'a> {
 #[derive(Drop)]
 pub struct CheckedLog<'a> {
     pub file: CheckedFile<'a>,
+    /// Whether it is of format 4. None: its file cannot be read again.
+    pub is_sealed: Option<bool>,
     pub check: Result<LogCheck, Fault>,
-    /// What follows its complete records, if something does and its file could be read again.
+    /// What follows its complete records, if something does, its file could be read again, and it is not of format 4.
     pub ending: Option<Ending>,
     /// Where the hole before it begins, if there is one and recovery names no fault.
     pub hole: Option<u64>,
@@ -198,6 +200,15 @@ impl CheckedLog<'_> {
         matches!(self.front(), Some(front) if front.torn())
     }
 
+    /// Returns whether it is known to stand in its file as it is: not in the blocks of format 4, in which it would be a segment.
+    fn is_plain(&self) -> bool {
+        match (self.is_sealed, self.front()) {
+            (Some(is_sealed), _) => !is_sealed,
+            (None, Some(front)) => front.head.segment.is_none(),
+            (None, None) => true,
+        }
+    }
+
     /// Returns whether one of its records is damaged, or it seems torn though records follow.
     pub fn is_damaged(&self) -> bool {
         let goes_on = matches!(&self.ending, Some(ending) if ending.again.is_some());
@@ -211,8 +222,9 @@ impl CheckedLog<'_> {
         }
     }
 
-    /// Returns its line. The late updates are known if there is a cutoff. The reason ends the line, since it has blanks.
-    fn fields(&self, number: usize, has_cutoff: bool) -> [Field<'_>; 17] {
+    /// Returns its line. The late updates are known if there is a cutoff. Where the records end is told if the log stands in its
+    /// file as it is. The reason ends the line, since it has blanks.
+    fn fields(&self, number: usize, has_cutoff: bool) -> [Field<'_>; 20] {
         let state = match &self.check {
             Ok(check) => match check.front.rest {
                 Rest::Nothing => Cell::Word("whole"),
@@ -224,7 +236,7 @@ impl CheckedLog<'_> {
         };
         let [end, records, marks, late, from, last] = match &self.check {
             Ok(LogCheck { front, marks, late }) => [
-                Some(front.bytes),
+                self.is_plain().then_some(front.bytes),
                 Some(front.count),
                 Some(*marks),
                 has_cutoff.then_some(*late),
@@ -237,9 +249,18 @@ impl CheckedLog<'_> {
             Some(ending) => ending.numbers(),
             None => [None; 4],
         };
-        let head = match self.front() {
-            Some(front) => Some(&front.head),
-            None => None,
+        let (head, segment) = match self.front() {
+            Some(front) if self.is_plain() => (Some(&front.head), None),
+            Some(front) => (None, front.head.segment),
+            None => (None, None),
+        };
+        let [format, worker, place] = match segment {
+            Some(Segment { worker, number }) => [
+                (self.is_sealed == Some(true)).then_some(4),
+                Some(u64::from(worker)),
+                Some(u64::from(number)),
+            ],
+            None => [None; 3],
         };
         [
             ("log", Cell::Number(Some(number as u64))),
@@ -257,6 +278,9 @@ impl CheckedLog<'_> {
             ("from", Cell::Number(from)),
             ("last", Cell::Number(last)),
             ("format", Cell::Format(head)),
+            ("format", Cell::Number(format)),
+            ("worker", Cell::Number(worker)),
+            ("segment", Cell::Number(place)),
             ("hole", Cell::Number(self.hole)),
             ("reason", Cell::Reason(self.file.reason.as_ref())),
         ]

@@ -87,9 +87,15 @@ impl<'a, R: Host> Run<'a, R> {
         let mut logs = Vec::with_capacity(alloc, checks.len())?;
         for ((log, name), check) in self.names.logs.iter().enumerate().zip(checks) {
             let is_unread = matches!(check, Err(Fault::Source { .. }));
+            let is_sealed = self.is_sealed(name.as_str())?;
+            let ending = match is_sealed {
+                Some(false) => self.ending_of(name.as_str(), &check)?,
+                Some(true) | None => None,
+            };
             logs.push(CheckedLog {
                 file: self.checked_file(name.as_str(), is_unread),
-                ending: self.ending_of(name.as_str(), &check)?,
+                is_sealed,
+                ending,
                 hole: holes.get(log).copied().flatten(),
                 check,
             })?;

@@ -25,6 +25,9 @@ pub fn cut<'a, R: Host, O: Write, E: Write>(
     err: &mut E,
 ) -> Result<(), Halt<'a>> {
     let mut file = open(rt, path)?;
+    if file.is_sealed() {
+        return Err(Halt::in_blocks(rt.alloc(), "cut", path));
+    }
     let (head, first) = match how.header {
         Some(head) => (head, 0),
         None => match header_at(&file.held) {

@@ -5,13 +5,16 @@ use crate::host::{Host, Run};
 use crate::listing::Names;
 use mt_recover::{Failure, Refusal};
 use mt_text::Shown;
-use mt_words::Fault;
+use mt_words::{Fault, What};
 use std::io::{self, ErrorKind, Write};
 
 /// What to try if parts are there, but no logs.
 const NO_LOGS_BESIDE_PARTS: &str =
     "put the logs back; parts of a checkpoint are there: resume --no-logs begins a log above its \
      end, which loses what logs had from its begin on, unless they were deleted because it stands for them";
+
+/// What to try if a log of format 4 is damaged.
+const PUT_BACK: &str = "put a good copy back: cut takes no file of format 4";
 
 /// What the system says if a process has too many open files (`EMFILE`).
 const TOO_MANY_OPEN: i32 = 24;
@@ -36,6 +39,8 @@ pub fn explain<E: Write>(refusal: &Refusal<'_>, names: &Names, err: &mut E) -> i
         }
         (Failure::Recovery(Fault::Source { .. } | Fault::PartSource { .. }), Some(reason))
             if reason.kind() == ErrorKind::FileTooLarge => "allow more by --file-bytes",
+        (Failure::Recovery(Fault::Header { .. }), Some(reason))
+            if reason.kind() == ErrorKind::InvalidData => PUT_BACK,
         (Failure::Recovery(Fault::Header { .. }), _)
             if matches!(file, Some(name) if name.ends_with(".mtc")) => "print a part by records",
         (failure, _) => advice(failure),
@@ -44,9 +49,17 @@ pub fn explain<E: Write>(refusal: &Refusal<'_>, names: &Names, err: &mut E) -> i
 }
 
 impl<'a, R: Host> Run<'a, R> {
-    /// Gives a failure of a file that has no reason the one that the file shows now.
+    /// Gives a failure of a file that has no reason the one that the file shows now, if it shows one.
     pub fn add_reason(&self, refusal: &mut Refusal<'_>) {
         if refusal.reason.is_some() {
+            return;
+        }
+        if let Failure::Recovery(Fault::Header { .. }) = &refusal.failure {
+            let file = file_of(&refusal.failure, self.names);
+            if matches!(file.map(|name| self.is_sealed(name)), Some(Ok(Some(true)))) {
+                let reason = "it is of format 4, and its header is not whole";
+                refusal.reason = Some(io::Error::new(ErrorKind::InvalidData, reason));
+            }
             return;
         }
         let unread = match &refusal.failure {
@@ -103,6 +116,10 @@ fn advice_on(fault: &Fault) -> &'static str {
         Fault::Header { .. } => {
             "put a good copy back; else see by check what is left, and save it by cut --header: if the file goes, its updates go with it, and nothing tells"
         }
+        Fault::Record {
+            what: What::Checksum,
+            ..
+        } => PUT_BACK,
         Fault::Record { .. } => {
             "put a good copy back; else see by check and records what follows, and save it into a new file by cut --skip"
         }

@@ -43,10 +43,7 @@ pub fn answer_file<R: Host, O: Write, E: Write>(
             "name a file by -o, or print the records",
         )),
         FileQuery::Cut(how, target) => cut_into(rt, path, how, *target, is_verbose, out, err),
-        FileQuery::Records(selection, at) => match records(rt, path, selection, *at, out) {
-            Ok(stop) => Ok(stop),
-            Err(refusal) => Err(Halt::from(refusal)),
-        },
+        FileQuery::Records(selection, at) => records(rt, path, selection, *at, out),
     };
     match answered {
         Ok(stop) => tell_stop(stop, is_verbose.then_some(path), err),
@@ -105,8 +102,11 @@ fn records<'a, R: Host, O: Write>(
     selection: &Selection,
     at: Option<u64>,
     out: &mut O,
-) -> Result<Option<Stop>, Refusal<'a>> {
+) -> Result<Option<Stop>, Halt<'a>> {
     let mut file = open(rt, path)?;
+    if file.is_sealed() {
+        return Err(Halt::in_blocks(rt.alloc(), "print", path));
+    }
     let mut out = BufWriter::with_capacity(rt.alloc(), PRINTED_AT_ONCE, out)?;
     let Some((head, rest)) = part_header_at(&file.held) else {
         return Ok(of_log(rt.alloc(), file, at, selection, &mut out)?);

@@ -1,7 +1,7 @@
 //! Reads a file in pieces, from its beginning to its end. So it may be longer than the memory, and may be a pipe.
 use crate::hints::Feeds;
 use crate::host::Host;
-use mt_record::{Head, KeptRecords, LogFeed, LogFront, encode_head};
+use mt_record::{Head, KeptRecords, LogFeed, LogFront, encode_head, is_sealed};
 use mt_recover::{Failure, Refusal};
 use mt_words::Fault;
 use std::alloc::Global;
@@ -22,6 +22,13 @@ pub struct Intake<F> {
     pub at: usize,
     /// The line feeds of all bytes that were read.
     pub feeds: Feeds,
+}
+
+impl<F> Intake<F> {
+    /// Returns whether the file is of format 4, as its first bytes say, if none was passed.
+    pub fn is_sealed(&self) -> bool {
+        is_sealed(&self.held)
+    }
 }
 
 impl<F: Read + Drop> Intake<F> {

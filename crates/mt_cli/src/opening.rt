@@ -1,6 +1,8 @@
 //! Opens the files of a folder.
+use crate::halt::Halt;
 use crate::host::{Host, Run};
 use crate::intake::Intake;
+use mt_record::is_sealed;
 use mt_recover::{Failure, Inputs, Refusal};
 use mt_scan::{LONGEST_BUFFER, Rack, ReaderSource, Slot};
 use mt_words::Memory;
@@ -11,6 +13,9 @@ use std::path::Path;
 
 /// The bytes that the buffers of a rack have together, unless that makes them too long or too short.
 const RACK_BYTES: usize = 4_194_304;
+
+/// The number of bytes of the magic that a file begins with.
+const MAGIC_BYTES: u64 = 4;
 
 /// The length of a buffer, in bytes, if there are many.
 const SHORT_BUFFER: usize = 8_192;
@@ -139,6 +144,32 @@ impl<'a, R: Host> Run<'a, R> {
             Ok(file) => Ok(Some(file)),
             Err(error) if error.kind() == ErrorKind::OutOfMemory => Err(Memory),
             Err(_) => Ok(None),
+        }
+    }
+
+    /// Returns whether the file of this name is of format 4, as its first bytes say. None: it is no regular file, as a pipe, or
+    /// cannot be read. Err: out of memory.
+    pub fn is_sealed(&self, name: &str) -> Result<Option<bool>, Memory> {
+        if self.size_of(name).is_none() {
+            return Ok(None);
+        }
+        let mut front = Vec::new(self.rt.alloc());
+        let read = match self.open(name) {
+            Ok(file) => file.take(MAGIC_BYTES).read_to_end(&mut front),
+            Err(error) => Err(error),
+        };
+        match read {
+            Ok(_) => Ok(Some(is_sealed(&front))),
+            Err(error) if error.kind() == ErrorKind::OutOfMemory => Err(Memory),
+            Err(_) => Ok(None),
+        }
+    }
+
+    /// Refuses a log of format 4, with which this is not done.
+    pub fn expect_unsealed(&self, name: &str, doing: &'static str) -> Result<(), Halt<'static>> {
+        match self.is_sealed(name)? {
+            Some(true) => Err(Halt::in_blocks(self.rt.alloc(), doing, name)),
+            Some(false) | None => Ok(()),
         }
     }
 

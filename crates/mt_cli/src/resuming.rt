@@ -31,6 +31,7 @@ impl<'a, R: Host> Run<'a, R> {
         }
         for name in &self.names.logs {
             site.expect(name.as_str(), false)?;
+            self.expect_unsealed(name.as_str(), "resume")?;
         }
         let checked = self.check_all(err)?;
         let losses = checked.losses();

@@ -12,7 +12,7 @@ use Rattle.mt_words.specs.declared.update.Update.{Update}
 use Rattle.mt_record.specs.declared.feed.head.Segment.{Segment}
 use Rattle.mt_record.specs.declared.front.LogFront.{LogFront}
 use Rattle.mt_record.specs.Logs.{latest, log_bytes}
-use Rattle.mt_record.specs.LogFronts.{IsFrontOf}
+use Rattle.mt_record.specs.LogFronts.{IsTextFrontOf}
 use Rattle.mt_scan.specs.Segments.{IsEarlier, is_earlier}
 use Rattle.mt_recover.specs.Recovery.{begin_of}
 use Rattle.mt_replay.proofs.Members.{of_map, in_map}
@@ -326,7 +326,7 @@ settled_kept logs now after n x are lt is lacks same =
 
 -- ---- a log that is added
 
-pub is_back : (clock : ℕ) (bytes : List ℕ) (front : LogFront) (records : List Logged) (w : Writer) → IsFrontOf bytes records front → front.latest ≤ clock + 1
+pub is_back : (clock : ℕ) (bytes : List ℕ) (front : LogFront) (records : List Logged) (w : Writer) → IsTextFrontOf bytes records front → front.latest ≤ clock + 1
     → Keeps w (read_back front.head records) × (bytes ≡ log_bytes front.head records) → w.failed ≡ false
     → IsBack clock bytes (record { segment = front.head.segment; from = front.head.from; stage = Writing w })
 is_back clock bytes front records w is low keeps failed =

@@ -8,8 +8,8 @@ use Rattle.mt_record.specs.declared.feed.head.Head.{Head}
 use Rattle.mt_record.specs.declared.front.LogFront.{LogFront}
 use Rattle.mt_record.specs.declared.read.FeedFault.{FeedFault}
 use Rattle.mt_record.specs.Logs.{log_bytes}
-use Rattle.mt_record.specs.LogFronts.{IsFrontOf}
-use Rattle.mt_record.specs.LogFaults.{IsLogFault}
+use Rattle.mt_record.specs.LogFronts.{IsTextFrontOf}
+use Rattle.mt_record.specs.LogFaults.{IsTextFault}
 use Rattle.mt_record.specs.Resuming.{greatest_timestamp, IsResumed}
 use Rattle.mt_scan.specs.Choice.{CheckpointReading}
 use Rattle.mt_scan.specs.Segments.{IsSame, is_earlier}
@@ -73,10 +73,10 @@ abbrev pub AreAdded : Keeping → List (List ℕ) → Keeping → Type 0
 AreAdded before [] after = after ≡ before
 AreAdded before (bytes ∷ files) after = (next : Keeping) × IsAdded before bytes next × AreAdded next files after
 
--- the bytes are no log that goes on
+-- the bytes are no log of formats 1 to 3 that goes on
 abbrev pub IsNoLog : ℕ → List ℕ → Type 0
-IsNoLog clock bytes = ((what : FeedFault) × IsLogFault bytes what)
-    ⊎ ((front : LogFront) × (records : List Logged) × IsFrontOf bytes records front × (GoesOn clock front → ⊥))
+IsNoLog clock bytes = ((what : FeedFault) × IsTextFault bytes what)
+    ⊎ ((front : LogFront) × (records : List Logged) × IsTextFrontOf bytes records front × (GoesOn clock front → ⊥))
 
 -- The log is not added: the bytes are no log that goes on, or a segment that was added; or no number is left for another worker, or there is no memory.
 abbrev pub AddsNone : Keeping → List ℕ → KeeperFault → Type 0

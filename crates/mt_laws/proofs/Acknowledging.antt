@@ -29,7 +29,7 @@ use Rattle.mt_replay.specs.Survivors.{all_updates}
 use Rattle.mt_replay.proofs.Members.{of_map, in_map}
 use Rattle.mt_recover.specs.Recovery.{begin_of}
 use Rattle.mt_writer.specs.Files.{OpenFile, file_bytes, file_reading, HasSynced, IsOpenFile, IsWritten, IsSynced}
-use Rattle.mt_writer.proofs.JournalLemmas.{whole_reading}
+use Rattle.mt_record.proofs.Opened.{whole_reading}
 use Rattle.mt_laws.specs.Lives.{IsBehind, AreOpen, IsSyncedAbove, AllSyncedAbove, LogOf, there, deleted, those_there, IsStill, as_written, records_in, history_of, updates_in, Checkpoints, IsNewOver, MayComeNext, running, write, sync, add_file, acknowledge, Life, then}
 use Rattle.mt_laws.proofs.LeftFiles.{says_less, earlier_or_not, later_or_last}
 use Rattle.mt_laws.proofs.ResumedLogs.{ClaimsNoMore, once_stays, gaps_stay}

@@ -13,6 +13,7 @@ use Rattle.mt_record.specs.Spelling.{spelling, IsRecordLength}
 use Rattle.mt_record.specs.Logs.{AreRecords, IsTorn, LogReading, IsReading}
 use Rattle.mt_record.proofs.Feeds.{apart, behind_on}
 use Rattle.mt_record.proofs.OneLog.{same_head}
+use Rattle.mt_record.proofs.Opened.{plain_log, plain_reading}
 use Rattle.mt_record.proofs.Records.{tells_torn}
 use Rattle.mt_record.proofs.Unique.{same_split}
 use Rattle.mt_writer.specs.Files.{IsCutOf}
@@ -78,22 +79,24 @@ cut_log left written log is cut =
     let limits = limits_of log.head.format in
     let header = cut.header in
     let front = head_bytes log.head in
+    let begins = behind_on (head_bytes header.head) left header.more cut.lost header.spelled in
+    let written_log = plain_log written log is header.head (header.more ++ cut.lost) (cut.begins ∙ begins) in
     let all = flat_map spelling log.records ++ is.tail in
-    let both : left ++ cut.lost ≡ front ++ all = sym cut.begins ∙ is.is_log.spelled in
-    let one = same_head header.head log.head (header.more ++ cut.lost) all header.is_head is.is_log.is_head (sym (behind_on (head_bytes header.head) left header.more cut.lost header.spelled) ∙ both) in
-    let behind : left ≡ front ++ header.more = header.spelled ∙ ap (λ (head : Head). head_bytes head ++ header.more) one.0 in
-    let first = first_records limits 0 log.records is.tail header.more cut.lost is.is_log.lawful is.is_log.ends (sym one.1) in
+    let both : left ++ cut.lost ≡ front ++ all = sym cut.begins ∙ written_log.spelled in
+    let one = same_head header.head log.head (header.more ++ cut.lost) all header.is_head written_log.is_head (sym begins ∙ both) in
+    let heads : header.head ≡ log.head = one.0 in
+    let behind : left ≡ front ++ header.more = header.spelled ∙ ap (λ (head : Head). head_bytes head ++ header.more) heads in
+    let first = first_records limits 0 log.records is.tail header.more cut.lost written_log.lawful written_log.ends (sym one.1) in
+    let new : LogReading = record { head = log.head; records = first.kept; torn = not (length first.rest == 0) } in
     record {
-      log = record { head = log.head; records = first.kept; torn = not (length first.rest == 0) };
-      is_reading = record {
-        tail = first.rest;
-        is_log = record {
-          spelled = behind ∙ ap (λ (bytes : List ℕ). front ++ bytes) first.spelled;
-          is_head = is.is_log.is_head;
-          lawful = front_lawful limits 0 first.kept first.lost (subst (AreRecords limits 0) first.all is.is_log.lawful);
-          ends = first.ends;
-        };
-        torn = tells_torn limits first.rest (length first.rest == 0) refl first.ends;
-      };
+      log = new;
+      is_reading = plain_reading left new first.rest
+          (record {
+            spelled = behind ∙ ap (λ (bytes : List ℕ). front ++ bytes) first.spelled;
+            is_head = written_log.is_head;
+            lawful = front_lawful limits 0 first.kept first.lost (subst (AreRecords limits 0) first.all written_log.lawful);
+            ends = first.ends;
+          })
+          (tells_torn limits first.rest (length first.rest == 0) refl first.ends);
       begins = record { head = refl; lost = first.lost; records = first.all };
     }

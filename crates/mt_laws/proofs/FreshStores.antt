@@ -20,6 +20,7 @@ use Rattle.mt_record.specs.Spelling.{spelling}
 use Rattle.mt_record.specs.Logs.{LogReading, IsReading, IsGreatestOf, times_of}
 use Rattle.mt_record.specs.LogTexts.{IsLast}
 use Rattle.mt_record.proofs.Records.{last_is, tells_torn}
+use Rattle.mt_record.proofs.Opened.{plain_reading}
 use Rattle.mt_checkpoint.specs.Checkpoints.{Checkpoint, HasPairs, entries_with, log_text}
 use Rattle.mt_checkpoint.proofs.Sound.{is_log}
 use Rattle.mt_scan.specs.Choice.{CheckpointReading}
@@ -177,11 +178,7 @@ abbrev fresh_log : Checkpoint → LogReading
 fresh_log checkpoint = file_reading (log_file checkpoint)
 
 fresh_is_reading : (pairs : List Pair) (checkpoint : Checkpoint) → HasPairs pairs checkpoint → IsReading (log_text checkpoint) (fresh_log checkpoint)
-fresh_is_reading pairs checkpoint is = record {
-  tail = [];
-  is_log = is_log pairs checkpoint is;
-  torn = tells_torn (limits_of Two) [] true refl (inl refl);
-}
+fresh_is_reading pairs checkpoint is = plain_reading (log_text checkpoint) (fresh_log checkpoint) [] (is_log pairs checkpoint is) (tells_torn (limits_of Two) [] true refl (inl refl))
 
 -- the mark is synced
 mark_synced : (P : Logged → Type 0) (pairs : List Pair) (checkpoint : Checkpoint) → HasPairs pairs checkpoint → P (mark_of (checkpoint.cutoff + 1))

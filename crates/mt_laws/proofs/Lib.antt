@@ -11,6 +11,7 @@ pub mod History
 pub mod Decided
 pub mod Items
 pub mod Fitting
+pub mod SomeSeal
 pub mod SomeReading
 pub mod SomePart
 pub mod Finite

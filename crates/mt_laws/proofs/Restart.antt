@@ -1,19 +1,17 @@
 -- A server that is down can start afresh, unless the cutoff is the greatest timestamp.
-use Rattle.std.proofs.Common.{◌≡◌, inl, ℕ, ◌+◌, ◌-◌, ◌^◌, ◌<◌, ◌≤◌, true, Some, List, [], ◌∷◌, ◌++◌, map, Contains, refl, sym, ap, subst, arith}
+use Rattle.std.proofs.Common.{◌≡◌, ℕ, ◌+◌, ◌-◌, ◌^◌, ◌<◌, ◌≤◌, Some, List, [], ◌∷◌, ◌++◌, map, Contains, refl, sym, ap, subst, arith}
 use Rattle.std.specs.List.{flat_map}
-use Rattle.std.proofs.lemmas.List.{append-nil}
 use Rattle.mt_words.specs.declared.limits.Format.TheVariants.{Two}
 use Rattle.mt_words.specs.declared.update.Update.{Update}
 use Rattle.mt_words.specs.Built.{mark_of}
 use Rattle.mt_words.specs.Changes.{Logged, is_mark}
-use Rattle.mt_words.specs.Limits.{limits_of}
 use Rattle.mt_words.specs.Walks.{Pair}
 use Rattle.mt_words.proofs.Elements.{head_in}
 use Rattle.mt_record.specs.Encoding.{head_of}
 use Rattle.mt_record.specs.Heads.{head_bytes}
 use Rattle.mt_record.specs.Logs.{IsReading}
 use Rattle.mt_record.specs.Spelling.{spelling}
-use Rattle.mt_record.proofs.Records.{tells_torn}
+use Rattle.mt_record.proofs.Opened.{whole_reading}
 use Rattle.mt_checkpoint.specs.Checkpoints.{entries_with}
 use Rattle.mt_scan.specs.Choice.{CheckpointReading}
 use Rattle.mt_replay.specs.Walk.{IsWalk}
@@ -30,16 +28,8 @@ fresh_file cutoff =
     record { head = head_of Two cutoff; records = mark_of (cutoff + 1) ∷ []; synced = head_bytes (head_of Two cutoff) ++ flat_map spelling (mark_of (cutoff + 1) ∷ []) }
 
 fresh_reading : (cutoff : ℕ) → cutoff < 2 ^ 64 - 1 → IsReading (file_bytes (fresh_file cutoff)) (file_reading (fresh_file cutoff))
-fresh_reading cutoff fits = record {
-  tail = [];
-  is_log = record {
-    spelled = ap (λ (l : List ℕ). head_bytes (head_of Two cutoff) ++ l) (sym (append-nil (flat_map spelling (mark_of (cutoff + 1) ∷ []))));
-    is_head = record { from = omega (arith, fits); segment = tt };
-    lawful = ((omega (arith, fits), tt), omega arith, tt);
-    ends = inl refl;
-  };
-  torn = tells_torn (limits_of Two) [] true refl (inl refl);
-}
+fresh_reading cutoff fits =
+    whole_reading (head_of Two cutoff) (mark_of (cutoff + 1) ∷ []) (record { from = omega (arith, fits); segment = tt }) ((omega (arith, fits), tt), omega arith, tt)
 
 -- its mark is synced
 fresh_synced : (cutoff : ℕ) → cutoff < 2 ^ 64 - 1 → (P : Logged → Type 0) → P (mark_of (cutoff + 1)) → HasSynced P (fresh_file cutoff)

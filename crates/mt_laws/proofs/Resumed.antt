@@ -1,7 +1,7 @@
 -- What replaces a log when it is resumed at a cutoff: which bytes are it, which times it has, and that resuming it again changes nothing.
 use Rattle.std.proofs.Common.{◌≡◌, ◌⊎◌, inl, inr, ℕ, ◌^◌, ◌<◌, ◌≤◌, ltb, eqb, Bool, true, false, cond, min, List, [], ◌∷◌, ◌++◌, map, Contains, refl, sym, ap, ◌∙◌, subst, arith}
 use Rattle.std.specs.Prelude.{◌&&◌, ◌||◌, ◌==◌, not, nat_lt}
-use Rattle.std.specs.List.{AllByRecursion, list_any, flat_map}
+use Rattle.std.specs.List.{AllByRecursion, list_any}
 use Rattle.std.proofs.lemmas.Bool.{cases_Bool, cases_lt, lt-ltb, le-ltb, ltb-true, ltb-false, eqb-true, ne_eqb, both_ways, and_from, and_parts, and_right, or_cases, or_from, false≢true}
 use Rattle.std.proofs.lemmas.List.{append-nil}
 use Rattle.std.proofs.lemmas.List.Elements.{filter-append, All-contains, Contains-append_right, Contains-append_cases}
@@ -10,11 +10,9 @@ use Rattle.mt_words.specs.declared.limits.Limits.{Limits}
 use Rattle.mt_words.specs.Limits.{limits_of}
 use Rattle.mt_words.specs.Changes.{Logged, is_mark}
 use Rattle.mt_words.proofs.Elements.{no_element, head_or_tail, head_in, tail_in}
-use Rattle.mt_record.specs.Spelling.{spelling}
-use Rattle.mt_record.specs.Heads.{head_bytes}
 use Rattle.mt_record.specs.Logs.{AreRecords, log_bytes, LogReading, IsReading, times_of}
 use Rattle.mt_record.specs.LogTexts.{IsLast}
-use Rattle.mt_record.proofs.Records.{tells_torn}
+use Rattle.mt_record.proofs.Opened.{whole_reading}
 use Rattle.mt_record.proofs.OneReading.{one_reading_of}
 use Rattle.mt_replay.proofs.Members.{of_map, in_map, of_filter}
 use Rattle.mt_words.specs.Built.{mark_of}
@@ -114,18 +112,9 @@ resumed_rise limits cutoff rs fits are =
 pub resumed_reading : (cutoff : ℕ) (bytes : List ℕ) (log : LogReading) → cutoff < 2 ^ 64 → IsReading bytes log
     → IsReading (log_bytes (resumed cutoff log).head (resumed cutoff log).records) (resumed cutoff log)
 resumed_reading cutoff bytes log fits is =
-    let limits = limits_of log.head.format in
     let from : log.head.from < 2 ^ 64 = is.is_log.is_head.from in
-    let records = (resumed cutoff log).records in record {
-      tail = [];
-      is_log = record {
-        spelled = ap (λ (l : List ℕ). head_bytes (resumed cutoff log).head ++ l) (sym (append-nil (flat_map spelling records)));
-        is_head = record { from = omega (arith, from); segment = is.is_log.is_head.segment };
-        lawful = resumed_rise limits cutoff log.records fits is.is_log.lawful;
-        ends = inl refl;
-      };
-      torn = tells_torn limits [] true refl (inl refl);
-    }
+    whole_reading (resumed cutoff log).head (resumed cutoff log).records (record { from = omega (arith, from); segment = is.is_log.is_head.segment })
+    (resumed_rise (limits_of log.head.format) cutoff log.records fits is.is_log.lawful)
 
 -- bytes that are resumed are read as what replaces the log
 pub reading_after : (cutoff : ℕ) (before after : List ℕ) (log : LogReading) → cutoff < 2 ^ 64 → IsReading before log → IsResumed cutoff before after

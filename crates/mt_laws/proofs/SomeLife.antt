@@ -1,8 +1,7 @@
 -- There is a life in which an old log with an acknowledged update is deleted over a checkpoint, before a crash.
-use Rattle.std.proofs.Common.{◌≡◌, inl, inr, ℕ, ◌<◌, ◌≤◌, true, false, Option, Some, None, List, [], ◌∷◌, ◌++◌, take, map, Contains, refl, sym, ap, ◌∙◌, subst, arith}
+use Rattle.std.proofs.Common.{◌≡◌, inl, inr, ℕ, ◌<◌, ◌≤◌, false, Option, Some, None, List, [], ◌∷◌, ◌++◌, take, map, Contains, refl, sym, ap, ◌∙◌, subst, arith}
 use Rattle.std.specs.List.{flat_map}
 use Rattle.std.proofs.lemmas.Bool.{cases_eq, ne_eqb, true≢false}
-use Rattle.std.proofs.lemmas.List.{append-nil}
 use Rattle.std.proofs.lemmas.List.Sorted.{IsPermutation-refl}
 use Rattle.mt_words.specs.declared.update.Update.{Update}
 use Rattle.mt_words.specs.declared.limits.Format.TheVariants.{One, Two}
@@ -19,8 +18,7 @@ use Rattle.mt_record.specs.Spelling.{spelling}
 use Rattle.mt_record.specs.Heads.{head_bytes}
 use Rattle.mt_record.specs.Logs.{LogReading, IsReading}
 use Rattle.mt_record.specs.Parts.{part_head, part_bytes, PartReading, IsPartReading}
-use Rattle.mt_record.proofs.Records.{tells_torn}
-use Rattle.mt_words.specs.Limits.{limits_of}
+use Rattle.mt_record.proofs.Opened.{whole_reading}
 use Rattle.mt_scan.specs.PartScans.{whole}
 use Rattle.mt_checkpoint.specs.Checkpoints.{entries_with}
 use Rattle.mt_scan.specs.Choice.{CheckpointReading, parts_of, IsValid}
@@ -101,28 +99,11 @@ abbrev new_file : OpenFile
 new_file = record { head = head_of One 2; records = new_records; synced = head_bytes (head_of One 2) ++ flat_map spelling new_records }
 
 old_reading : IsReading (file_bytes old_file) (file_reading old_file)
-old_reading = record {
-  tail = [];
-  is_log = record {
-    spelled = ap (λ (l : List ℕ). head_bytes (head_of One 0) ++ l) (sym (append-nil (flat_map spelling old_records)));
-    is_head = record { from = omega arith; segment = tt };
-    lawful = ((omega arith, (record { version = omega arith; version_fits = omega arith; key = omega arith; kind = ((((omega arith, omega arith), tt), (omega arith, tt)), omega arith) }, tt)), omega arith, ((omega arith, tt), omega arith, tt));
-    ends = inl refl;
-  };
-  torn = tells_torn (limits_of One) [] true refl (inl refl);
-}
+old_reading = whole_reading (head_of One 0) old_records (record { from = omega arith; segment = tt })
+    ((omega arith, (record { version = omega arith; version_fits = omega arith; key = omega arith; kind = ((((omega arith, omega arith), tt), (omega arith, tt)), omega arith) }, tt)), omega arith, ((omega arith, tt), omega arith, tt))
 
 new_reading : IsReading (file_bytes new_file) (file_reading new_file)
-new_reading = record {
-  tail = [];
-  is_log = record {
-    spelled = ap (λ (l : List ℕ). head_bytes (head_of One 2) ++ l) (sym (append-nil (flat_map spelling new_records)));
-    is_head = record { from = omega arith; segment = tt };
-    lawful = ((omega arith, tt), omega arith, tt);
-    ends = inl refl;
-  };
-  torn = tells_torn (limits_of One) [] true refl (inl refl);
-}
+new_reading = whole_reading (head_of One 2) new_records (record { from = omega arith; segment = tt }) ((omega arith, tt), omega arith, tt)
 
 -- the marks are synced
 old_synced : (P : Logged → Type 0) → P (mark_of 3) → HasSynced P old_file

@@ -1,14 +1,15 @@
 -- Bytes are a log or have a fault.
 use Rattle.std.proofs.Common.{◌≡◌, ◌⊎◌, inl, inr, ℕ, zero, suc, eqb, ◌+◌, ◌^◌, ◌<◌, ◌≤◌, List, [], ◌∷◌, ◌++◌, length, take, drop, Option, Some, None, Bool, true, false, refl, sym, ap, subst, ◌∙◌, arith}
-use Rattle.std.proofs.lemmas.Bool.{cases_lt, cases_eq}
+use Rattle.std.proofs.lemmas.Bool.{cases_lt, cases_eq, false≢true}
 use Rattle.std.proofs.lemmas.List.{length-drop, length-take-le, take-append-drop, nil_from_length}
-use Rattle.std.specs.Prelude.{◌==◌, not, IfSome, slice_index}
-use Rattle.std.specs.List.{flat_map}
+use Rattle.std.specs.Prelude.{◌==◌, ◌||◌, ◌↔◌, not, IfSome, IsTrue, slice_index}
+use Rattle.std.proofs.lemmas.List.Elements.{All-from_recursion, recursion_from_All}
+use Rattle.std.specs.List.{All, flat_map}
 use Rattle.byteorder.specs.Endian.{big_bytes, big_from}
 use Rattle.byteorder.specs.Numbers.{big_number-reads_back}
 use Rattle.mt_words.specs.declared.record.Change.{Change}
 use Rattle.mt_words.specs.declared.fault.What.{What}
-use Rattle.mt_words.specs.declared.fault.What.TheVariants.{Length, Trailer, Kind, Frame, Version, Key, Columns, Clock}
+use Rattle.mt_words.specs.declared.fault.What.TheVariants.{Length, Trailer, Kind, Frame, Version, Key, Columns, Clock, Checksum}
 use Rattle.mt_words.specs.declared.limits.Format.{Format}
 use Rattle.mt_words.specs.declared.limits.Format.TheVariants.{One, Two}
 use Rattle.mt_words.specs.declared.limits.Limits.{Limits}
@@ -23,9 +24,13 @@ use Rattle.mt_record.specs.declared.feed.head.Head.{Head}
 use Rattle.mt_record.specs.Heads.{IsHead, head_bytes, HasNoHeader}
 use Rattle.mt_record.specs.Encoding.{head_of, segment_head}
 use Rattle.mt_record.specs.Spelling.{body, body_of, framed, spelling, FitsLogged, IsRecordLength, longest_record}
-use Rattle.mt_record.specs.Logs.{AreRecords, latest, IsTorn, LogReading, IsReading, count_of}
+use Rattle.mt_record.specs.Logs.{AreRecords, latest, IsTorn, IsLog, LogReading, IsReading, count_of}
+use Rattle.mt_record.specs.Opening.{IsSealed, text_head, joined as joined_bodies, text_of, is_torn, Opens, OpensSoFar}
+use Rattle.mt_block.specs.declared.header.Header.{Header}
+use Rattle.mt_block.specs.Blocks.{IsHeader, header_bytes, IsBody, Begins as BeginsBlocks, IsFile, IsDamaged}
+use Rattle.mt_block.proofs.Deciding.{some_of}
 use Rattle.mt_record.specs.Fronts.{IsNext}
-use Rattle.mt_record.specs.LogFaults.{IsKindByte, HasVersionFault, HasKeyFault, HasColumnsFault, IsBodyOfChange, BodyFault, HasBodyFault, RestFault, IsLogFault}
+use Rattle.mt_record.specs.LogFaults.{IsKindByte, HasVersionFault, HasKeyFault, HasColumnsFault, IsBodyOfChange, BodyFault, HasBodyFault, RestFault, IsRecordFault, IsLogFault}
 use Rattle.mt_record.proofs.Frames.{trailer_fault}
 use Rattle.mt_record.proofs.Numbers.{AreBytes, bytes_back, four, number_front}
 use Rattle.mt_record.proofs.Records.{records_push, tells_torn}
@@ -33,6 +38,9 @@ use Rattle.mt_record.proofs.Unique.{framed_apart}
 use Rattle.mt_laws.proofs.Decided.{Decided, at_most, below, both, alike, three, if_some}
 use Rattle.mt_laws.proofs.Items.{Begins, begins_or_none, joined, fewer_left}
 use Rattle.mt_laws.proofs.Fitting.{Spells, body_or_none, kind_allowed}
+use Rattle.mt_record.proofs.FileFeeds.{text_is_head}
+use Rattle.mt_record.proofs.Opened.{head_not_sealed, header_sealed}
+use Rattle.mt_laws.proofs.SomeSeal.{sealed_or_not, seal_or_none, joined_bytes}
 
 -- ---- the header
 
@@ -135,6 +143,7 @@ data Rest (limits : Limits) (low : ℕ) (rest : List ℕ) : Type 0 where
 fault_of_body : (what : What) (limits : Limits) (low : ℕ) (rest : List ℕ) → HasBodyFault what limits low rest → RestFault what limits low rest
 fault_of_body Length limits low rest h = absurd h.fault
 fault_of_body Trailer limits low rest h = absurd h.fault
+fault_of_body Checksum limits low rest h = absurd h.fault
 fault_of_body what limits low rest h = h
 
 framed_rest : (limits : Limits) (low : ℕ) (rest bytes after : List ℕ) → IsRecordLength limits (length bytes) → rest ≡ framed bytes ++ after → BodyOrFault limits low bytes → Rest limits low rest
@@ -189,10 +198,7 @@ rest_of limits low rest small = by_size (cases_lt (length rest) 4)
         let front = number_front 4 rest four enough small in
         by_length front.0 front.1 front.2 (both (at_most 9 n) (at_most n (longest_record limits)))
 
--- ---- the log
-
-abbrev pub ReadingOrFault : List ℕ → Type 0
-ReadingOrFault bytes = ((log : LogReading) × IsReading bytes log) ⊎ ((fault : FeedFault) × IsLogFault bytes fault)
+-- ---- the text
 
 -- bytes that are a header and lawful records, and then the rest
 record BeginsLog (bytes : List ℕ) (head : Head) (records : List Logged) (rest : List ℕ) : Type 0 where
@@ -209,20 +215,26 @@ one_more bytes rest after head records r begins next = record {
   lawful = records_push (limits_of head.format) 0 records r begins.lawful next.lawful next.rises;
 }
 
+-- the text is a log
+record IsTextLog (text : List ℕ) : Type 0 where
+  head : Head
+  records : List Logged
+  tail : List ℕ
+  is_log : IsLog text head records tail
+
+-- a text that has a header is a log, or has a fault after some records
+abbrev LogOrFault : List ℕ → Type 0
+LogOrFault text = IsTextLog text ⊎ ((nth : ℕ) × (what : What) × IsRecordFault text nth what)
+
 -- the rest decides, if it decides after each further record
 by_rest : (bytes rest : List ℕ) (head : Head) (records : List Logged) → BeginsLog bytes head records rest
-    → ((r : Logged) (after : List ℕ) → IsNext (limits_of head.format) (latest 0 records) rest r after → ReadingOrFault bytes)
-    → Rest (limits_of head.format) (latest 0 records) rest → ReadingOrFault bytes
-by_rest bytes rest head records begins further (ends end) = inl (
-  record { head = head; records = records; torn = not (length rest == 0) },
-  record {
-    tail = rest;
-    is_log = record { spelled = begins.spelled; is_head = begins.is_head; lawful = begins.lawful; ends = end };
-    torn = tells_torn (limits_of head.format) rest (length rest == 0) refl end;
-  },
-)
+    → ((r : Logged) (after : List ℕ) → IsNext (limits_of head.format) (latest 0 records) rest r after → LogOrFault bytes)
+    → Rest (limits_of head.format) (latest 0 records) rest → LogOrFault bytes
+by_rest bytes rest head records begins further (ends end) =
+    inl (record { head = head; records = records; tail = rest; is_log = record { spelled = begins.spelled; is_head = begins.is_head; lawful = begins.lawful; ends = end } })
 by_rest bytes rest head records begins further (fault_at what fault) = inr (
-  faults.Record (count_of records) what,
+  count_of records,
+  what,
   record {
     records = records;
     fault = record { head = head; rest = rest; spelled = begins.spelled; is_head = begins.is_head; lawful = begins.lawful; fault = fault };
@@ -232,10 +244,10 @@ by_rest bytes rest head records begins further (fault_at what fault) = inr (
 by_rest bytes rest head records begins further (record_at r after next) = further r after next
 
 -- `n` bounds the number of bytes left
-after_records : (n : ℕ) (bytes rest : List ℕ) (head : Head) (records : List Logged) → length rest < n → BeginsLog bytes head records rest → AreBytes rest → ReadingOrFault bytes
+after_records : (n : ℕ) (bytes rest : List ℕ) (head : Head) (records : List Logged) → length rest < n → BeginsLog bytes head records rest → AreBytes rest → LogOrFault bytes
 after_records zero bytes rest head records fewer begins small = absurd (omega (arith, fewer))
 after_records (suc n) bytes rest head records fewer begins small =
-    let further : (r : Logged) (after : List ℕ) → IsNext (limits_of head.format) (latest 0 records) rest r after → ReadingOrFault bytes = λ r after next.
+    let further : (r : Logged) (after : List ℕ) → IsNext (limits_of head.format) (latest 0 records) rest r after → LogOrFault bytes = λ r after next.
     after_records n bytes after head (records ++ r ∷ []) (fewer_left n rest (body r) after fewer next.spelled) (one_more bytes rest after head records r begins next)
     (bytes_back (spelling r) after (subst AreBytes next.spelled small)) in
     by_rest bytes rest head records begins further (rest_of (limits_of head.format) (latest 0 records) rest small)
@@ -246,9 +258,92 @@ each_is_byte [] all i = omega arith
 each_is_byte (x ∷ xs) all zero = all.0
 each_is_byte (x ∷ xs) all (suc i) = each_is_byte xs all.1 i
 
+log_or_fault : (bytes more : List ℕ) (head : Head) → IsHead head → bytes ≡ head_bytes head ++ more → words.AreBytes more → LogOrFault bytes
+log_or_fault bytes more head is e are = after_records (suc (length more)) bytes more head [] (omega arith) (record { spelled = e; is_head = is; lawful = tt }) (each_is_byte more are)
+
+-- ---- the file
+
+abbrev pub ReadingOrFault : List ℕ → Type 0
+ReadingOrFault bytes = ((log : LogReading) × IsReading bytes log) ⊎ ((fault : FeedFault) × IsLogFault bytes fault)
+
+-- whether a torn block follows the text, or the text has a torn tail
+torn_of : (limits : Limits) (tail : List ℕ) (ended empty : Bool) → IsTrue (not empty) ↔ IsTorn limits tail → IsTrue (ended || not empty) ↔ (IsTrue ended ⊎ IsTorn limits tail)
+torn_of limits tail true empty tells = (λ _. inl refl, λ _. refl)
+torn_of limits tail false empty tells = (λ torn. inr (tells.0 torn), λ either. elim either as (λ _. IsTrue (not empty)) [ inl wrong ↦ absurd (false≢true wrong) | inr torn ↦ tells.1 torn ])
+
+-- a file whose text is a log
+file_reading : (bytes text : List ℕ) (ended : Bool) → Opens bytes text ended → IsTextLog text → (log : LogReading) × IsReading bytes log
+file_reading bytes text ended opens is = (
+  record { head = is.head; records = is.records; torn = ended || not (length is.tail == 0) },
+  record {
+    text = text;
+    ended = ended;
+    opens = opens;
+    tail = is.tail;
+    is_log = is.is_log;
+    torn = torn_of (limits_of is.head.format) is.tail ended (length is.tail == 0) (tells_torn (limits_of is.head.format) is.tail (length is.tail == 0) refl is.is_log.ends);
+  },
+)
+
+-- a file whose text has a fault
+file_fault : (bytes text : List ℕ) (nth : ℕ) (what : What) → OpensSoFar bytes text → IsRecordFault text nth what → ReadingOrFault bytes
+file_fault bytes text nth what opens fault = inr (faults.Record nth what, inl (record { text = text; opens = opens; fault = fault }))
+
+-- the bytes behind others
+back : (xs ys : List ℕ) → words.AreBytes (xs ++ ys) → words.AreBytes ys
+back [] ys are = are
+back (x ∷ xs) ys are = back xs ys are.1
+
+plain_file : (bytes : List ℕ) → (IsSealed bytes → ⊥) → words.AreBytes bytes → ReadingOrFault bytes
+plain_file bytes plain are = elim (header_or_none bytes) as (λ _. ReadingOrFault bytes) [
+  | inl begins ↦ by (log_or_fault bytes begins.more begins.head begins.is_head begins.joins (back (head_bytes begins.head) begins.more (subst words.AreBytes begins.joins are)))
+  | inr none ↦ inr (faults.Header, (none, λ header more is e. plain (header_sealed bytes header more e)))
+]
+  where
+    by : LogOrFault bytes → ReadingOrFault bytes
+    by (inl is) = inl (file_reading bytes bytes false (inl ((plain, refl), refl)) is)
+    by (inr (nth, what, fault)) = file_fault bytes bytes nth what (inl (plain, refl)) fault
+
+sealed_file : (bytes rest : List ℕ) (header : Header) → IsHeader header → bytes ≡ header_bytes header ++ rest → words.AreBytes bytes → ReadingOrFault bytes
+sealed_file bytes rest header is e are = elim (some_of bytes header rest (All-from_recursion (λ (b : ℕ). b < 2 ^ 8) bytes are) is e) as (λ _. ReadingOrFault bytes) [
+  | inl (bodies, end, file) ↦ of_file bodies end file (log_or_fault (text_of header bodies) (joined_bodies bodies) (text_head header) (text_is_head header is) refl (small bodies file.begins.are_bodies))
+  | inr (bodies, damaged) ↦ of_damaged bodies damaged (log_or_fault (text_of header bodies) (joined_bodies bodies) (text_head header) (text_is_head header is) refl (small bodies damaged.begins.are_bodies))
+]
+  where
+    small : (bodies : List (List ℕ)) → All IsBody bodies → words.AreBytes (joined_bodies bodies)
+    small bodies are_bodies = recursion_from_All (λ (b : ℕ). b < 2 ^ 8) (joined_bodies bodies) (joined_bytes bodies are_bodies)
+
+    so_far : (bodies : List (List ℕ)) (end : List ℕ) → BeginsBlocks bytes header bodies end → OpensSoFar bytes (text_of header bodies)
+    so_far bodies end begins = inr (record { header = header; bodies = bodies; rest = end; begins = begins; is_text = refl })
+
+    of_file : (bodies : List (List ℕ)) (end : List ℕ) → IsFile bytes header bodies end → LogOrFault (text_of header bodies) → ReadingOrFault bytes
+    of_file bodies end file (inl log) =
+        inl (file_reading bytes (text_of header bodies) (is_torn end) (inr (record { header = header; bodies = bodies; end = end; is_file = file; is_text = refl; ends = refl })) log)
+    of_file bodies end file (inr (nth, what, fault)) = file_fault bytes (text_of header bodies) nth what (so_far bodies end file.begins) fault
+
+    of_damaged : (bodies : List (List ℕ)) → IsDamaged bytes header bodies → LogOrFault (text_of header bodies) → ReadingOrFault bytes
+    of_damaged bodies damaged (inl log) = inr (
+      faults.Record (count_of log.records) Checksum,
+      inr (
+        refl,
+        record {
+          text = text_of header bodies;
+          is_damaged = record { header = header; bodies = bodies; is_damaged = damaged; is_text = refl };
+          head = log.head;
+          records = log.records;
+          tail = log.tail;
+          is_log = log.is_log;
+          number = refl;
+        },
+      ),
+    )
+    of_damaged bodies damaged (inr (nth, what, fault)) = file_fault bytes (text_of header bodies) nth what (so_far bodies damaged.rest damaged.begins) fault
+
 pub reading_or_fault : (bytes : List ℕ) → words.AreBytes bytes → ReadingOrFault bytes
-reading_or_fault bytes are = elim (header_or_none bytes) as (λ _. ReadingOrFault bytes) [
-  | inl begins ↦ after_records (suc (length begins.more)) bytes begins.more begins.head [] (omega arith) (record { spelled = begins.joins; is_head = begins.is_head; lawful = tt })
-      (bytes_back (head_bytes begins.head) begins.more (subst AreBytes begins.joins (each_is_byte bytes are)))
-  | inr none ↦ inr (faults.Header, none)
+reading_or_fault bytes are = elim (sealed_or_not bytes) as (λ _. ReadingOrFault bytes) [
+  | inl sealed ↦ elim (seal_or_none bytes) as (λ _. ReadingOrFault bytes) [
+    | inl begins ↦ sealed_file bytes begins.more begins.head begins.is_head begins.joins are
+    | inr none ↦ inr (faults.Header, (λ head more is e. head_not_sealed bytes head more e sealed, none))
+  ]
+  | inr plain ↦ plain_file bytes plain are
 ]

@@ -12,7 +12,7 @@ use Rattle.mt_record.specs.Logs.{LogReading, IsReading, times_of}
 use Rattle.mt_record.specs.Spelling.{spelling}
 use Rattle.mt_scan.specs.Segments.{IsEarlier, IsSame, HasGap}
 use Rattle.mt_writer.specs.Files.{OpenFile, file_bytes, file_reading, HasSynced, IsOpenFile}
-use Rattle.mt_writer.proofs.JournalLemmas.{whole_reading}
+use Rattle.mt_record.proofs.Opened.{whole_reading}
 use Rattle.mt_laws.specs.Lives.{IsBehind, AreOpen, there, only, IsAdded, running, acknowledge, add_file, Life, begun, then}
 use Rattle.mt_laws.proofs.LeftFiles.{none_at}
 use Rattle.mt_laws.proofs.Living.{all_of_it}

@@ -3,7 +3,7 @@ use Rattle.std.proofs.Common.{◌≡◌, ◌≢◌, ◌∙◌, inl, inr, ℕ, �
 use Rattle.std.specs.Prelude.{Result, Ok, Err, IfErr, OnErr}
 use Rattle.byteorder.specs.Endian.{big_bytes}
 use Rattle.mt_words.specs.declared.fault.What.{What}
-use Rattle.mt_words.specs.declared.fault.What.TheVariants.{Length, Trailer, Kind, Frame, Version, Key, Columns, Clock}
+use Rattle.mt_words.specs.declared.fault.What.TheVariants.{Length, Trailer, Kind, Frame, Version, Key, Columns, Clock, Checksum}
 use Rattle.mt_words.specs.declared.limits.Format.{Format}
 use Rattle.mt_words.specs.declared.record.Change.{Change}
 use Rattle.mt_words.specs.declared.update.Kind.{Kind as AnyKind}
@@ -52,6 +52,7 @@ no_entry_text format bytes Version h entry is e =
 no_entry_text format bytes Key h entry is e = other_entry format bytes _ h (λ other lawful wrong. wrong.1 lawful.0.key) entry is e
 no_entry_text format bytes Columns h entry is e = other_entry format bytes _ h (λ other lawful wrong. wrong.refused lawful.0.kind) entry is e
 no_entry_text format bytes Clock h entry is e = h
+no_entry_text format bytes Checksum h entry is e = h
 
 -- ---- frames
 
@@ -94,6 +95,7 @@ frame_no_entry format bytes Version h = absurd h
 frame_no_entry format bytes Key h = absurd h
 frame_no_entry format bytes Columns h = absurd h
 frame_no_entry format bytes Clock h = absurd h
+frame_no_entry format bytes Checksum h = absurd h
 
 -- if a check returns a fault of a `Whole`, the bytes are not the fields of any entry
 pub entry_fault : (format : Format) (bytes : List ℕ) (outcome : Result (Unit {0}) What) → IfErr outcome (IsChangeFault (limits_of format) 0 bytes) → OnErr outcome (AreNoFields (limits_of format) bytes)

@@ -22,20 +22,21 @@ use Rattle.mt_record.specs.Spelling.{framed, spelling, IsRecordLength}
 use Rattle.mt_record.specs.Fronts.{ShowsNone, IsUnfinishedFront}
 use Rattle.mt_record.specs.Heads.{IsHead, head_bytes, HasNoHeader}
 use Rattle.mt_record.specs.Encoding.{head_of}
-use Rattle.mt_record.specs.Logs.{latest, IsTorn, LogReading, IsReading, count_of, log_bytes}
+use Rattle.mt_record.specs.Logs.{latest, IsTorn, IsLog, LogReading, IsReading, count_of, log_bytes}
 use Rattle.mt_record.specs.LogTexts.{version_of, versions_of, greatest, IsLast, front_of, tail_rest, front_in, IsTextIn}
 use Rattle.mt_record.specs.declared.front.LogFront.{LogFront}
-use Rattle.mt_record.specs.LogFaults.{RestFault, IsLogFault}
+use Rattle.mt_record.specs.LogFaults.{RestFault, IsRecordFault, IsTextFault}
 use Rattle.mt_record.specs.declared.front.Rest.{Rest}
 use Rattle.mt_record.specs.declared.front.Rest.TheVariants.{Nothing, Torn, Faulty}
-use Rattle.mt_record.specs.LogFronts.{IsRest, IsFrontOf}
+use Rattle.mt_record.specs.LogFronts.{IsTextRest, IsTextFrontOf, IsFrontOf}
 use Rattle.mt_record.specs.Steps.Bodies.{IsNextBody, IsBodyOf}
 use Rattle.mt_record.specs.Feeding.{HasRead, Reads, HoldsAll, HasShown}
-use Rattle.mt_record.specs.LogFeeding.{LogSoFar, log_so_far, ShowsFault, IsShown, ShowsNoFault, IsReadTo, HoldsLog, IsLogLeft, IsLogFaulty}
+use Rattle.mt_record.specs.LogFeeding.{LogSoFar, log_so_far, IsReadTo, HoldsLog, IsLogLeft, IsLogFaulty}
 use Rattle.mt_record.proofs.Records.{records_push, latest_push, greatest_push, last_is, torn_some}
 use Rattle.mt_record.specs.Decoding.{decode}
 use Rattle.mt_record.proofs.Decodes.{body_says}
-use Rattle.mt_record.proofs.OneReading.{not_both}
+use Rattle.mt_record.proofs.OneReading.{text_not_both, rest_fault_on}
+use Rattle.mt_record.proofs.Opened.{reading_of_front}
 use Rattle.mt_record.proofs.Beginnings.{cut_none, same_long, head_long, head_short}
 use Rattle.mt_record.proofs.Frames.{length_fault_on, frame_on}
 use Rattle.mt_record.proofs.Feeds.{behind_on, shows_none_on, front_read}
@@ -49,7 +50,7 @@ unread taken s text rest none reads =
     sym (reads.joins ∙ ap (λ (x : List ℕ). x ++ rest) read.0)
 
 -- if a header was read, the input is the header, the encodings of lawful records, and the rest
-begun : (taken : List Logged) (s : LogSoFar) (front : LogFront) (text rest : List ℕ) → s.front ≡ Some front → (reads : HasRead (HoldsLog taken s) text rest)
+pub begun : (taken : List Logged) (s : LogSoFar) (front : LogFront) (text rest : List ℕ) → s.front ≡ Some front → (reads : HasRead (HoldsLog taken s) text rest)
     → (text ≡ head_bytes front.head ++ (flat_map spelling (taken ++ s.ready) ++ rest)) × IsReadTo front (taken ++ s.ready) reads.front
 begun taken s front text rest some reads =
     let read : IsReadTo front (taken ++ s.ready) reads.front = rw some at reads.read in
@@ -135,7 +136,7 @@ no_head_read taken s text left none (reads, rest) = subst HasNoHeader (unread ta
 
 -- if a header was read, the input is the header, the records, and the rest
 pub front_is : (taken : List Logged) (s : LogSoFar) (front : LogFront) (text left : List ℕ) (rest : Rest) → s.front ≡ Some front → HasRead (HoldsLog taken s) text left
-    → IsRest (limits_of front.head.format) front.latest left rest → IsFrontOf text (taken ++ s.ready) (record front { rest = rest })
+    → IsTextRest (limits_of front.head.format) front.latest left rest → IsTextFrontOf text (taken ++ s.ready) (record front { rest = rest })
 front_is taken s front text left rest some reads is =
     let is_begun = begun taken s front text left some reads in
     let read = is_begun.1 in
@@ -145,40 +146,35 @@ front_is taken s front text left rest some reads is =
       spelled = is_begun.0 ∙ sym (append_assoc (head_bytes front.head) (flat_map spelling (taken ++ s.ready)) left);
       is_head = read.is_head;
       lawful = read.lawful;
-      is_rest = subst (λ (n : ℕ). IsRest (limits_of front.head.format) n left rest) low is;
+      is_rest = subst (λ (n : ℕ). IsTextRest (limits_of front.head.format) n left rest) low is;
       numbers = λ i. record (read.numbers i) { rest = rest };
     }
 
 -- if bytes are left, they are a torn tail
 pub front_torn : (taken : List Logged) (s : LogSoFar) (front : LogFront) (text left : List ℕ) → s.front ≡ Some front → HoldsAll (HoldsLog taken) IsLogLeft s left text → (left ≡ [] → ⊥)
-    → IsFrontOf text (taken ++ s.ready) (record front { rest = Torn })
+    → IsTextFrontOf text (taken ++ s.ready) (record front { rest = Torn })
 front_torn taken s front text left some (reads, rest) more = by (rw some at rest)
   where
-    by : (left ≡ []) ⊎ IsTorn (limits_of front.head.format) left → IsFrontOf text (taken ++ s.ready) (record front { rest = Torn })
+    by : (left ≡ []) ⊎ IsTorn (limits_of front.head.format) left → IsTextFrontOf text (taken ++ s.ready) (record front { rest = Torn })
     by (inl none) = absurd (more none)
     by (inr torn) = front_is taken s front text left Torn some reads torn
 
--- bytes with this front are a log if no fault follows the records
+-- a file with this front is a log if no fault follows the records
 pub text_read : {R : Type 0} (listed : R → List Logged) (ready : R) (taken : List Logged) (bytes : List ℕ) (front : LogFront) → IsFrontOf bytes (taken ++ listed ready) front
     → ((what : What) → front.rest ≢ Faulty what) → IsTextIn listed taken bytes (record { front = front; records = ready })
-text_read listed ready taken bytes front is sound = by front.rest refl is.is_rest
+text_read listed ready taken bytes front is sound = by front.rest refl
   where
-    text : (torn : Bool) → front.rest ≡ tail_rest torn → (is.rest ≡ []) ⊎ IsTorn (limits_of front.head.format) is.rest → IsTrue torn ↔ IsTorn (limits_of front.head.format) is.rest
-        → IsTextIn listed taken bytes (record { front = front; records = ready })
-    text torn rest ends tells = record {
+    text : (torn : Bool) → front.rest ≡ tail_rest torn → IsTextIn listed taken bytes (record { front = front; records = ready })
+    text torn rest = record {
       log = record { head = front.head; records = taken ++ listed ready; torn = torn };
-      is_reading = record {
-        tail = is.rest;
-        is_log = record { spelled = is.spelled ∙ append_assoc (head_bytes front.head) (flat_map spelling (taken ++ listed ready)) is.rest; is_head = is.is_head; lawful = is.lawful; ends = ends };
-        torn = tells;
-      };
+      is_reading = reading_of_front bytes (taken ++ listed ready) front torn is rest;
       shows = record { front = is.numbers ∙ ap (front_of front.head (taken ++ listed ready)) rest; records = refl };
     }
 
-    by : (rest : Rest) → front.rest ≡ rest → IsRest (limits_of front.head.format) (latest 0 (taken ++ listed ready)) is.rest rest → IsTextIn listed taken bytes (record { front = front; records = ready })
-    by Nothing same none = text false same (inl none) (λ t. absurd (false≢true t), λ torn. absurd (omega (arith, ap length none, torn_some (limits_of front.head.format) is.rest torn)))
-    by Torn same torn = text true same (inr torn) (λ t. torn, λ torn. refl)
-    by (Faulty what) same fault = absurd (sound what same)
+    by : (rest : Rest) → front.rest ≡ rest → IsTextIn listed taken bytes (record { front = front; records = ready })
+    by Nothing same = text false same
+    by Torn same = text true same
+    by (Faulty what) same = absurd (sound what same)
 
 -- the last timestamp of a log, by its front
 pub front_last : (bytes : List ℕ) (log : LogReading) (front : LogFront) (n : ℕ) → n ≡ max front.head.from front.latest → IsReading bytes log → front ≡ front_in log → IsLast log n
@@ -187,7 +183,7 @@ front_last bytes log front n e is same =
     subst (λ (m : ℕ). IsLast log m) (sym time) (last_is (limits_of log.head.format) log is.is_log.lawful)
 
 -- the header and the records of the front are the first bytes
-pub front_bytes : (bytes : List ℕ) (records : List Logged) (front : LogFront) → length bytes < 2 ^ 64 → IsFrontOf bytes records front
+pub front_bytes : (bytes : List ℕ) (records : List Logged) (front : LogFront) → length bytes < 2 ^ 64 → IsTextFrontOf bytes records front
     → (front.bytes ≤ length bytes) × (take front.bytes bytes ≡ log_bytes front.head records)
 front_bytes bytes records front fits is =
     let log = log_bytes front.head records in
@@ -207,46 +203,44 @@ chunk_read bytes chunk read end le within e =
 
 -- ---- faults
 
--- a fault that the bytes show is the fault of the bytes
-pub shown_fault : (fault : FeedFault) (bytes : List ℕ) → ShowsFault bytes fault → IsLogFault bytes fault
-shown_fault faults.Header bytes h = h.0
-shown_fault (faults.Record nth what) bytes h = h
-shown_fault faults.Memory bytes h = h
+-- the text so far shows the fault, whatever bytes follow; it never shows `Memory`
+abbrev pub ShowsInText : List ℕ → FeedFault → Type 0
+ShowsInText text faults.Header = ShowsNone IsHead head_bytes text
+ShowsInText text (faults.Record nth what) = IsRecordFault text nth what
+ShowsInText text faults.Memory = ⊥
+
+-- a fault that a text shows is the fault of the text
+pub shown_in_text : (fault : FeedFault) (text : List ℕ) → ShowsInText text fault → IsTextFault text fault
+shown_in_text faults.Header text h = h.0
+shown_in_text (faults.Record nth what) text h = h
+shown_in_text faults.Memory text h = h
 
 -- a proper prefix of a header shows no fault
-cut_shows_none : (bytes : List ℕ) → IsUnfinishedFront IsHead head_bytes bytes → ShowsNoFault bytes
-cut_shows_none bytes cut faults.Header h = h.1 cut.head cut.more cut.is_head cut.begun
-cut_shows_none bytes cut (faults.Record nth what) h =
-    cut_none IsHead head_bytes same_long bytes cut h.fault.head (flat_map spelling h.records ++ h.fault.rest) h.fault.is_head h.fault.spelled
-cut_shows_none bytes cut faults.Memory h = h
+cut_shows_none : (text : List ℕ) → IsUnfinishedFront IsHead head_bytes text → (fault : FeedFault) → ShowsInText text fault → ⊥
+cut_shows_none text cut faults.Header h = h.1 cut.head cut.more cut.is_head cut.begun
+cut_shows_none text cut (faults.Record nth what) h =
+    cut_none IsHead head_bytes same_long text cut h.fault.head (flat_map spelling h.records ++ h.fault.rest) h.fault.is_head h.fault.spelled
+cut_shows_none text cut faults.Memory h = h
 
--- the input of a feed without a fault shows no fault
-pub fed_shows_none : (taken : List Logged) (s : LogSoFar) (held text : List ℕ) → HoldsAll (HoldsLog taken) IsLogLeft s held text → ShowsNoFault text
-fed_shows_none taken s held text (reads, left) = by s.front refl
+-- if a header was read, and no fault shown, the text is a log
+pub log_read : (taken : List Logged) (s : LogSoFar) (front : LogFront) (held text : List ℕ) → s.front ≡ Some front → HoldsAll (HoldsLog taken) IsLogLeft s held text → IsLog text front.head (taken ++ s.ready) held
+log_read taken s front held text some (reads, left) =
+    let is = begun taken s front text held some reads in
+    record { spelled = is.0; is_head = is.1.is_head; lawful = is.1.lawful; ends = rw some at left }
+
+-- the text of a feed without a fault shows no fault
+pub text_shows_none : (taken : List Logged) (s : LogSoFar) (held text : List ℕ) → HoldsAll (HoldsLog taken) IsLogLeft s held text → (fault : FeedFault) → ShowsInText text fault → ⊥
+text_shows_none taken s held text (reads, left) = by s.front refl
   where
-    by : (o : Option LogFront) → s.front ≡ o → ShowsNoFault text
-    by None none = subst ShowsNoFault (unread taken s text held none reads) (cut_shows_none held (rw none at left))
-    by (Some front) some = λ fault h.
-        let is = begun taken s front text held some reads in
-        not_both text front.head (taken ++ s.ready) held fault (record { spelled = is.0; is_head = is.1.is_head; lawful = is.1.lawful; ends = rw some at left }) (shown_fault fault text h)
+    by : (o : Option LogFront) → s.front ≡ o → (fault : FeedFault) → ShowsInText text fault → ⊥
+    by None none = subst (λ (t : List ℕ). (fault : FeedFault) → ShowsInText t fault → ⊥) (unread taken s text held none reads) (cut_shows_none held (rw none at left))
+    by (Some front) some = λ fault h. text_not_both text front.head (taken ++ s.ready) held fault (log_read taken s front held text some (reads, left)) (shown_in_text fault text h)
 
--- a fault of the rest stays its fault when more bytes follow
-rest_fault_on : (what : What) (limits : Limits) (low : ℕ) (rest more : List ℕ) → RestFault what limits low rest → RestFault what limits low (rest ++ more)
-rest_fault_on Length limits low rest more h = length_fault_on (IsRecordLength limits) rest more h
-rest_fault_on Trailer limits low rest more h = (frame_on (IsRecordLength limits) rest more h.0, h.1)
-rest_fault_on what limits low rest more h = record {
-  body = h.body;
-  more = h.more ++ more;
-  is_length = h.is_length;
-  spelled = behind_on (framed h.body) rest h.more more h.spelled;
-  fault = h.fault;
-}
-
--- the input of a feed that failed shows its fault
-pub fed_shows : (taken : List Logged) (s : LogSoFar) (fault : FeedFault) (text : List ℕ) → HasShown (HasRead (HoldsLog taken s) text) (IsLogFaulty s fault) → IsShown text fault
-fed_shows taken s faults.Header text h other =
+-- the text of a feed that failed shows its fault
+pub text_shows : (taken : List Logged) (s : LogSoFar) (fault : FeedFault) (text : List ℕ) → HasShown (HasRead (HoldsLog taken s) text) (IsLogFaulty s fault) → fault ≢ faults.Memory → ShowsInText text fault
+text_shows taken s faults.Header text h other =
     subst (ShowsNone IsHead head_bytes) (unread taken s text (h.shown ++ h.more) h.fault.0 h.read) (shows_none_on IsHead head_bytes h.shown h.more h.fault.1)
-fed_shows taken s (faults.Record nth what) text h other =
+text_shows taken s (faults.Record nth what) text h other =
     let front = h.fault.front in
     let is = begun taken s front text (h.shown ++ h.more) h.fault.begun h.read in
     let low : front.latest ≡ latest 0 (taken ++ s.ready) = ap (λ (f : LogFront). f.latest) is.1.numbers in
@@ -263,11 +257,11 @@ fed_shows taken s (faults.Record nth what) text h other =
       };
       number = h.fault.number ∙ ap (λ (f : LogFront). f.count) is.1.numbers;
     }
-fed_shows taken s faults.Memory text h other = absurd (other refl)
+text_shows taken s faults.Memory text h other = absurd (other refl)
 
 -- if the input shows a fault, the bytes after the records have it
 pub front_faulty : (taken : List Logged) (s : LogSoFar) (front : LogFront) (nth : ℕ) (what : What) (text : List ℕ) → s.front ≡ Some front
-    → HasShown (HasRead (HoldsLog taken s) text) (IsLogFaulty s (faults.Record nth what)) → IsFrontOf text (taken ++ s.ready) (record front { rest = Faulty what })
+    → HasShown (HasRead (HoldsLog taken s) text) (IsLogFaulty s (faults.Record nth what)) → IsTextFrontOf text (taken ++ s.ready) (record front { rest = Faulty what })
 front_faulty taken s front nth what text some h =
     let same : h.fault.front ≡ front = same_Some _ _ (sym h.fault.begun ∙ some) in
     front_is taken s front text (h.shown ++ h.more) (Faulty what) some h.read (rest_fault_on what (limits_of front.head.format) front.latest h.shown h.more (rw same at h.fault.fault))

@@ -7,7 +7,7 @@ use Rattle.mt_words.specs.declared.record.Change.{Change}
 use Rattle.mt_words.specs.declared.update.Kind.{Kind as AnyKind}
 use Rattle.mt_words.specs.declared.update.Kind.TheVariants.{Put, Remove, Whole, Erase}
 use Rattle.mt_words.specs.declared.fault.What.{What}
-use Rattle.mt_words.specs.declared.fault.What.TheVariants.{Length, Trailer, Kind, Frame, Version, Key, Columns, Clock}
+use Rattle.mt_words.specs.declared.fault.What.TheVariants.{Length, Trailer, Kind, Frame, Version, Key, Columns, Clock, Checksum}
 use Rattle.mt_words.specs.declared.limits.Limits.{Limits}
 use Rattle.mt_words.specs.Limits.{limits_of}
 use Rattle.mt_words.specs.Words.{IsKey}
@@ -64,6 +64,7 @@ passes limits (Some change) lawful = (lawful.0.version, lawful.0.key, lawful.0.k
 tested_body : (what : What) (format : Format) (low : ℕ) (bytes : List ℕ) → BodyFault what (limits_of format) low bytes → TestedBody what (limits_of format) low bytes
 tested_body Length format low bytes h = absurd h
 tested_body Trailer format low bytes h = absurd h
+tested_body Checksum format low bytes h = absurd h
 tested_body Kind format low bytes h = here refl h
 tested_body Frame format low bytes h = behind h.0 (here refl (λ read. h.1 read.0 read.1 read.2))
 tested_body Version format low bytes (byte, h) = behind byte (behind (changed h.timestamp h.change, h.fits, h.spelled) (here refl (λ some. omega (arith, some, h.holds))))

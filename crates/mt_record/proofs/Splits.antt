@@ -17,6 +17,7 @@ use Rattle.mt_record.specs.Heads.{IsHead, head_bytes}
 use Rattle.mt_record.specs.Logs.{AreRecords, LogReading, IsReading}
 use Rattle.mt_record.specs.Resuming.{below, marks_of, IsResumed}
 use Rattle.mt_record.specs.Steps.Splits.{IsSplitIn}
+use Rattle.mt_record.proofs.Opened.{plain_reading}
 use Rattle.mt_record.proofs.OneLog.{same_head}
 use Rattle.mt_record.proofs.Records.{tells_torn}
 
@@ -58,11 +59,10 @@ log_of head records tail = record { head = head; records = records; torn = not (
 -- a header and bytes that were split are a log
 pub split_log : (bytes rest : List ℕ) (head : Head) (cutoff : ℕ) (split : Split) → IsHead head → bytes ≡ head_bytes head ++ rest → (is : IsSplitIn head.format cutoff rest split)
     → IsReading bytes (log_of head is.records is.tail)
-split_log bytes rest head cutoff split is_head e is = record {
-  tail = is.tail;
-  is_log = record { spelled = e ∙ ap (λ (x : List ℕ). head_bytes head ++ x) is.spelled; is_head = is_head; lawful = is.lawful; ends = is.ends };
-  torn = tells_torn (limits_of head.format) is.tail (length is.tail == 0) refl is.ends;
-}
+split_log bytes rest head cutoff split is_head e is =
+    plain_reading bytes (log_of head is.records is.tail) is.tail
+    (record { spelled = e ∙ ap (λ (x : List ℕ). head_bytes head ++ x) is.spelled; is_head = is_head; lawful = is.lawful; ends = is.ends })
+    (tells_torn (limits_of head.format) is.tail (length is.tail == 0) refl is.ends)
 
 -- the first bytes are those of the records below the cutoff
 pub kept_bytes : (head : Head) (cutoff : ℕ) (rest : List ℕ) (split : Split) → (is : IsSplitIn head.format cutoff rest split)

@@ -4,7 +4,7 @@ use Rattle.mt_words.specs.declared.fault.Fault.{Fault}
 use Rattle.mt_words.specs.declared.fault.Fault.TheVariants as of_all
 use Rattle.mt_record.specs.declared.read.FeedFault.{FeedFault}
 use Rattle.mt_record.specs.declared.read.FeedFault.TheVariants as faults
-use Rattle.mt_record.specs.LogFaults.{IsLogFault, OrMemory}
+use Rattle.mt_record.specs.LogFaults.{IsTextFault, IsLogFault, OrMemory}
 use Rattle.mt_record.specs.declared.part_text.PartFault.{PartFault}
 use Rattle.mt_record.specs.declared.part_text.PartFault.TheVariants as of_part
 use Rattle.mt_record.specs.PartFaults.{IsPartFault}
@@ -18,6 +18,10 @@ fault_at log faults.Memory = of_all.Memory
 -- a returned fault is the fault of the bytes, unless it is `Memory`
 abbrev pub IsAnswered : List ℕ → FeedFault → Type 0
 IsAnswered bytes = OrMemory faults.Memory (IsLogFault bytes)
+
+-- a returned fault is the fault of the text, unless it is `Memory`
+abbrev pub IsTextAnswered : List ℕ → FeedFault → Type 0
+IsTextAnswered text = OrMemory faults.Memory (IsTextFault text)
 
 -- a returned fault is the fault of the bytes, unless it is `Memory`
 abbrev pub IsPartAnswered : List ℕ → PartFault → Type 0

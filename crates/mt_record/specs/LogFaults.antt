@@ -1,10 +1,10 @@
--- The one fault of bytes that are not a log. Nothing is claimed about running out of memory.
-use Rattle.std.specs.Prelude.{◌≡◌, ◌≢◌, ℕ, ◌≤◌, ◌<◌, ◌^◌, List, ◌++◌, length, slice_index}
+-- The one fault of a file that is not a log. Nothing is claimed about running out of memory.
+use Rattle.std.specs.Prelude.{◌≡◌, ◌≢◌, ℕ, ◌≤◌, ◌<◌, ◌^◌, ◌⊎◌, List, ◌++◌, length, slice_index}
 use Rattle.std.specs.List.{flat_map}
 use Rattle.byteorder.specs.Endian.{big_bytes}
 use Rattle.mt_words.specs.declared.record.Change.{Change}
 use Rattle.mt_words.specs.declared.fault.What.{What}
-use Rattle.mt_words.specs.declared.fault.What.TheVariants.{Length, Trailer, Kind, Frame, Version, Key, Columns, Clock}
+use Rattle.mt_words.specs.declared.fault.What.TheVariants.{Length, Trailer, Kind, Frame, Version, Key, Columns, Clock, Checksum}
 use Rattle.mt_words.specs.declared.limits.Limits.{Limits}
 use Rattle.mt_words.specs.Limits.{limits_of}
 use Rattle.mt_words.specs.Words.{IsKey}
@@ -14,7 +14,8 @@ use Rattle.mt_record.specs.declared.read.FeedFault.TheVariants as faults
 use Rattle.mt_record.specs.Spelling.{body, framed, spelling, Fits, IsRecordLength}
 use Rattle.mt_record.specs.declared.feed.head.Head.{Head}
 use Rattle.mt_record.specs.Heads.{IsHead, head_bytes, HasNoHeader}
-use Rattle.mt_record.specs.Logs.{AreRecords, latest, count_of}
+use Rattle.mt_record.specs.Logs.{AreRecords, latest, IsLog, count_of}
+use Rattle.mt_record.specs.Opening.{HasNoSeal, OpensSoFar, IsDamagedAfter}
 
 -- the byte is that of a kind of record that the format has
 abbrev pub IsKindByte : Limits → ℕ → Type 0
@@ -52,6 +53,7 @@ pub record IsBodyOfEarlier (limits : Limits) (low : ℕ) (bytes : List ℕ) : Ty
 abbrev pub BodyFault : What → Limits → ℕ → List ℕ → Type 0
 BodyFault Length limits low bytes = ⊥
 BodyFault Trailer limits low bytes = ⊥
+BodyFault Checksum limits low bytes = ⊥
 BodyFault Kind limits low bytes = IsKindByte limits (slice_index bytes 0) → ⊥
 BodyFault Frame limits low bytes = IsKindByte limits (slice_index bytes 0) × ((r : Logged) → Fits r → bytes ≢ body r)
 BodyFault Version limits low bytes = IsKindByte limits (slice_index bytes 0) × IsBodyOfChange bytes HasVersionFault
@@ -109,10 +111,32 @@ pub record IsRecordFault (bytes : List ℕ) (nth : ℕ) (what : What) : Type 0 w
   pub fault : HasFault bytes records what
   pub number : nth ≡ count_of records
 
--- the fault of bytes that are not a log, which is never `Memory`
+-- the fault of a text that is not a log, which is never `Memory`
+abbrev pub IsTextFault : List ℕ → FeedFault → Type 0
+IsTextFault text faults.Header = HasNoHeader text
+IsTextFault text (faults.Record nth what) = IsRecordFault text nth what
+IsTextFault text faults.Memory = ⊥
+
+-- a file of format 4 is damaged, after blocks whose text is a log with `nth` records
+pub record IsDamagedLog (bytes : List ℕ) (nth : ℕ) : Type 0 where
+  pub text : List ℕ
+  pub is_damaged : IsDamagedAfter bytes text
+  pub head : Head
+  pub records : List Logged
+  pub tail : List ℕ
+  pub is_log : IsLog text head records tail
+  pub number : nth ≡ count_of records
+
+-- the text of a file so far has this fault
+pub record HasTextFault (bytes : List ℕ) (nth : ℕ) (what : What) : Type 0 where
+  pub text : List ℕ
+  pub opens : OpensSoFar bytes text
+  pub fault : IsRecordFault text nth what
+
+-- the fault of a file that is not a log, which is never `Memory`
 abbrev pub IsLogFault : List ℕ → FeedFault → Type 0
-IsLogFault bytes faults.Header = HasNoHeader bytes
-IsLogFault bytes (faults.Record nth what) = IsRecordFault bytes nth what
+IsLogFault bytes faults.Header = HasNoHeader bytes × HasNoSeal bytes
+IsLogFault bytes (faults.Record nth what) = HasTextFault bytes nth what ⊎ ((what ≡ Checksum) × IsDamagedLog bytes nth)
 IsLogFault bytes faults.Memory = ⊥
 
 -- `P` holds for the fault, unless the fault is `memory`, that is out of memory; then nothing is claimed

@@ -1,10 +1,12 @@
 -- A log in chunks: what a feed has read, and which faults the bytes so far show.
-use Rattle.std.specs.Prelude.{◌≡◌, ℕ, ◌⊎◌, Option, Some, None, MatchOption, Result, List, [], ◌++◌}
+use Rattle.std.specs.Prelude.{◌≡◌, ℕ, ◌⊎◌, false, Option, Some, None, MatchOption, Result, List, [], ◌++◌}
 use Rattle.std.specs.Borrow.{Bor}
 use Rattle.mt_words.specs.Limits.{limits_of}
 use Rattle.mt_words.specs.Changes.{Logged}
 use Rattle.mt_record.specs.declared.read.FeedFault.{FeedFault}
 use Rattle.mt_words.specs.declared.fault.What.{What}
+use Rattle.mt_words.specs.declared.fault.What.TheVariants.{Checksum}
+use Rattle.mt_words.specs.declared.fault.Memory.{Memory}
 use Rattle.mt_record.specs.declared.read.FeedFault.TheVariants as faults
 use Rattle.mt_record.specs.declared.feed.log_items.LogItems.{LogItems}
 use Rattle.mt_record.specs.declared.front.Rest.TheVariants.{Nothing}
@@ -14,7 +16,11 @@ use Rattle.mt_record.specs.Heads.{IsHead, head_bytes}
 use Rattle.mt_record.specs.Logs.{AreRecords, IsTorn, log_bytes}
 use Rattle.mt_record.specs.LogTexts.{front_of}
 use Rattle.mt_record.specs.LogFaults.{RestFault, IsLogFault, OrMemory}
-use Rattle.mt_record.specs.Feeding.{Steps, Fed, IsFedBy}
+use Rattle.mt_record.specs.Feeding.{Steps, IsFedBy}
+use Rattle.mt_record.specs.declared.feed.file_feed.FileFeed.{FileFeed}
+use Rattle.mt_record.specs.declared.feed.file_feed.FileKind.{FileKind}
+use Rattle.mt_record.specs.declared.feed.file_feed.FileKind.TheVariants as kinds
+use Rattle.mt_record.specs.Unsealing.{place_of, FileSoFar, ShowsNoSeal, IsPlain, IsFedAs}
 
 -- ---- what was read
 
@@ -44,29 +50,33 @@ abbrev pub IsLogLeft : LogSoFar → List ℕ → Type 0
 IsLogLeft so_far rest = MatchOption so_far.front (IsUnfinishedFront IsHead head_bytes rest) (λ front. (rest ≡ []) ⊎ IsTorn (limits_of front.head.format) rest)
 
 -- after the records so far, `nth` of them, the rest has this fault
-pub record IsFaultBehind (so_far : LogSoFar) (nth : ℕ) (what : What) (rest : List ℕ) : Type 0 where
+pub record IsFaultBehind (read : Option LogFront) (nth : ℕ) (what : What) (rest : List ℕ) : Type 0 where
   pub front : LogFront
-  pub begun : so_far.front ≡ Some front
+  pub begun : read ≡ Some front
   pub number : nth ≡ front.count
   pub fault : RestFault what (limits_of front.head.format) front.latest rest
 
 -- the rest shows the fault, whatever bytes follow; for `Memory` nothing is required
 abbrev pub IsLogFaulty : LogSoFar → FeedFault → List ℕ → Type 0
 IsLogFaulty so_far faults.Header rest = (so_far.front ≡ None) × ShowsNone IsHead head_bytes rest
-IsLogFaulty so_far (faults.Record nth what) rest = IsFaultBehind so_far nth what rest
+IsLogFaulty so_far (faults.Record nth what) rest = IsFaultBehind so_far.front nth what rest
 IsLogFaulty so_far faults.Memory rest = Unit {0}
 
 -- ---- faults that are shown
 
--- the bytes so far show the fault, whatever bytes follow; they never show `Memory`
+-- The bytes so far show the fault, whatever bytes follow; they never show `Memory`. A header of format 4 is judged once all its bytes are there.
 abbrev pub ShowsFault : List ℕ → FeedFault → Type 0
-ShowsFault bytes faults.Header = ShowsNone IsHead head_bytes bytes
+ShowsFault bytes faults.Header = (IsPlain bytes × ShowsNone IsHead head_bytes bytes) ⊎ ShowsNoSeal bytes
 ShowsFault bytes (faults.Record nth what) = IsLogFault bytes (faults.Record nth what)
 ShowsFault bytes faults.Memory = ⊥
 
 -- the bytes show the fault that a feed returned, unless it is `Memory`
 abbrev pub IsShown : List ℕ → FeedFault → Type 0
 IsShown bytes = OrMemory faults.Memory (ShowsFault bytes)
+
+-- the bytes show that they begin with no header, whatever follows; for `Memory` nothing is required
+abbrev pub IsHeaderShown : List ℕ → FeedFault → Type 0
+IsHeaderShown bytes fault = (fault ≡ faults.Memory) ⊎ ((fault ≡ faults.Header) × ShowsNoSeal bytes)
 
 abbrev pub ShowsNoFault : List ℕ → Type 0
 ShowsNoFault bytes = (fault : FeedFault) → ShowsFault bytes fault → ⊥
@@ -84,10 +94,49 @@ StepsLog listed old new bytes answer =
 
 -- ---- feeds
 
--- what contracts see of a log's feed
-abbrev pub FedLog : Type 0
-FedLog = Fed LogSoFar FeedFault
+-- what contracts see of a log's feed: what was read of the text, the beginning of a record that is held back, the fault that was returned, and the file around the text
+pub record FedLog : Type 0 where
+  pub so_far : LogSoFar
+  pub held : List ℕ
+  pub fault : Option FeedFault
+  pub file : FileSoFar FeedFault
+
+-- the number of records that were read
+abbrev pub count_read : Option LogFront → ℕ
+count_read None = 0
+count_read (Some front) = front.count
+
+-- the fault of a file that is damaged after these records
+abbrev pub damage_after : LogSoFar → FeedFault
+damage_after so_far = faults.Record (count_read so_far.front) Checksum
+
+abbrev pub IsMemory : FeedFault → Type 0
+IsMemory fault = (memory : Memory) × (fault ≡ faults.Memory)
+
+-- the feed of the text was fed this text
+abbrev pub IsTextFed : List Logged → LogSoFar → List ℕ → Option FeedFault → List ℕ → Type 0
+IsTextFed taken so_far held fault text = IsFedBy (HoldsLog taken) IsLogLeft IsLogFaulty so_far held fault text
 
 -- the feed was fed these bytes, and these records were taken from it
 abbrev pub IsLogFed : FedLog → List ℕ → List Logged → Type 0
-IsLogFed feed bytes taken = IsFedBy (HoldsLog taken) IsLogLeft IsLogFaulty feed.so_far feed.held feed.fault bytes
+IsLogFed feed bytes taken = IsFedAs feed.file.kind (IsTextFed taken feed.so_far feed.held) (damage_after feed.so_far) IsHeaderShown IsMemory feed.file feed.fault bytes
+
+-- the fault that was returned: that of the text in a plain file, and otherwise that of the file
+abbrev pub fault_in : FileKind → Option FeedFault → Option FeedFault → Option FeedFault
+fault_in kinds.Plain of_text of_file = of_text
+fault_in kind of_text of_file = of_file
+
+-- what contracts see of this feed of a file; `listed` gives its records
+abbrev pub fed_log : {R : Type 0} → (R → List Logged) → FileFeed R → FedLog
+fed_log listed file =
+    let inner = file.blocks.items.inner in
+    record {
+      so_far = log_so_far listed inner.items;
+      held = inner.held.items;
+      fault = fault_in file.kind inner.fault file.blocks.fault;
+      file = record { kind = file.kind; held = file.blocks.held.items; fault = inner.fault; place = place_of file.blocks.items };
+    }
+
+-- all bytes of the file were read
+abbrev pub IsAllRead : FedLog → Type 0
+IsAllRead feed = (feed.held ≡ []) × (feed.file.kind ≡ kinds.Blocks → (feed.file.held ≡ []) × (feed.file.place.searching ≡ false))

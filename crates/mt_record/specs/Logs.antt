@@ -8,6 +8,7 @@ use Rattle.mt_words.specs.Changes.{Logged, IsLawful}
 use Rattle.mt_record.specs.Spelling.{spelling, IsRecordLength}
 use Rattle.mt_record.specs.declared.feed.head.Head.{Head}
 use Rattle.mt_record.specs.Heads.{IsHead, head_bytes}
+use Rattle.mt_record.specs.Opening.{Opens}
 
 -- lawful records whose timestamps are at least `low` and never fall
 abbrev pub AreRecords : Limits → ℕ → List Logged → Type 0
@@ -39,7 +40,7 @@ IsTorn limits rest = IsUnfinished (IsRecordLength limits) rest
 abbrev pub log_bytes : Head → List Logged → List ℕ
 log_bytes head records = head_bytes head ++ flat_map spelling records
 
--- a log: its header, its records, and a tail that is empty or torn
+-- a text that is a log: its header, its records, and a tail that is empty or torn
 pub record IsLog (bytes : List ℕ) (head : Head) (records : List Logged) (tail : List ℕ) : Type 0 where
   pub spelled : bytes ≡ head_bytes head ++ (flat_map spelling records ++ tail)
   pub is_head : IsHead head
@@ -52,10 +53,14 @@ pub record LogReading : Type 0 where
   pub records : List Logged
   pub torn : Bool
 
+-- The bytes are a file whose text is this log. The tail is torn, or the text is whole and a torn block follows it.
 pub record IsReading (bytes : List ℕ) (log : LogReading) : Type 0 where
+  pub text : List ℕ
+  pub ended : Bool
+  pub opens : Opens bytes text ended
   pub tail : List ℕ
-  pub is_log : IsLog bytes log.head log.records tail
-  pub torn : IsTrue log.torn ↔ IsTorn (limits_of log.head.format) tail
+  pub is_log : IsLog text log.head log.records tail
+  pub torn : IsTrue log.torn ↔ (IsTrue ended ⊎ IsTorn (limits_of log.head.format) tail)
 
 -- `from`, and the timestamps of the records, marks included
 abbrev pub times_of : LogReading → List ℕ

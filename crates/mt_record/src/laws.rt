@@ -11,14 +11,14 @@ ghost use Rattle.mt_record.specs.declared.feed.head.Head.{Head};
 ghost use Rattle.mt_record.specs.Heads.{IsHead, head_bytes};
 ghost use Rattle.mt_record.specs.declared.salvage.Stretch.{Stretch};
 ghost use Rattle.mt_record.specs.Salvage.{AreStretches, kept_bytes, spans, records_in};
-ghost use Rattle.mt_record.specs.Logs.{IsLog};
+ghost use Rattle.mt_record.specs.Logs.{IsLog, LogReading, IsReading};
 ghost use Rattle.mt_record.specs.LogFaults.{IsLogFault};
 ghost use Rattle.mt_record.specs.declared.part_text.PartHead.{PartHead};
 ghost use Rattle.mt_record.specs.declared.part_text.PartFault.{PartFault};
 ghost use Rattle.mt_record.specs.Parts.{IsPart, entry_spelling};
 ghost use Rattle.mt_record.specs.PartFaults.{IsPartFault};
 
-/// Bytes are a log in at most one way and have at most one fault, never both. No encoding of a record begins the
+/// A text is a log in at most one way. A file is a log in at most one way and has at most one fault, never both. No encoding of a record begins the
 /// encoding of another record. This is a law: it has nothing to run.
 pub fn one_reading()
     ensures one_log { (bytes : List ℕ) (head other : Head) (records others : List Logged) (tail rest : List ℕ) →
@@ -26,8 +26,8 @@ pub fn one_reading()
         (head ≡ other) × (records ≡ others) × (tail ≡ rest) }
     ensures one_fault { (bytes : List ℕ) (fault other : FeedFault) →
         IsLogFault bytes fault → IsLogFault bytes other → fault ≡ other }
-    ensures not_both { (bytes : List ℕ) (head : Head) (records : List Logged) (tail : List ℕ) (fault : FeedFault) →
-        IsLog bytes head records tail → IsLogFault bytes fault → ⊥ }
+    ensures one_reading { (bytes : List ℕ) (log other : LogReading) → IsReading bytes log → IsReading bytes other → log ≡ other }
+    ensures not_both { (bytes : List ℕ) (log : LogReading) (fault : FeedFault) → IsReading bytes log → IsLogFault bytes fault → ⊥ }
     ensures prefix_free { (format : Format) (r s : Logged) (more : List ℕ) →
         IsLawful (limits_of format) r → IsLawful (limits_of format) s → spelling s ≡ spelling r ++ more →
         (r ≡ s) × (more ≡ []) }

@@ -36,7 +36,7 @@ pub use encode::parts::{
     encode_entry, encode_part, encode_part_2, encode_part_footer, encode_part_header,
 };
 pub use encode::{encode_log_header, encode_log_header_2, encode_log_header_3, encode_record};
-pub use feed::head::{Head, Segment, header_at};
+pub use feed::head::{Head, Segment, header_at, is_sealed};
 pub use feed::log_feed::LogFeed;
 pub use feed::part_feed::PartFeed;
 pub use feed::part_head::{FOOTER_BYTES, PART, PART_HEADER_BYTES, part_header_at};

@@ -6,11 +6,12 @@ ghost use Rattle.mt_record.specs.declared.read.FeedFault.TheVariants as faults;
 ghost use Rattle.mt_record.specs.Logs.{log_bytes};
 ghost use Rattle.mt_record.specs.LogTexts.{IsTextOf};
 ghost use Rattle.mt_record.specs.Fronts.{IsNext, Stops};
-ghost use Rattle.mt_record.specs.LogFronts.{IsFrontOf};
-ghost use Rattle.mt_record.specs.Answered.{IsAnswered, fault_at};
+ghost use Rattle.mt_record.specs.LogFronts.{IsTextFrontOf};
+ghost use Rattle.mt_record.specs.Answered.{IsAnswered, IsTextAnswered, fault_at};
 
 use crate::body::copy::copy_record;
 use crate::feed::frame::next_record;
+use crate::feed::head::is_sealed;
 use crate::feed::log_feed::LogFeed;
 use crate::front::LogFront;
 use mt_words::{Fault, Format, Memory, Record, What};
@@ -77,13 +78,16 @@ pub fn read_log(alloc: Global, bytes: &[u8]) -> Result<LogText, FeedFault>
 /// The number of bytes of a log in memory that are read at once.
 const READ_AT_ONCE: usize = 65_536;
 
-/// Returns how far bytes are a log, and the bytes of just the header and the complete records, which are a log. It
+/// Returns how far a text is a log, and the bytes of just the header and the complete records, which are a log. It
 /// keeps no record.
-/// Err: the bytes have no header, or `Memory` if an allocation failed.
+/// Err: the text has no header, as a file of format 4 has none of its own, or `Memory` if an allocation failed.
 pub fn cut_log(alloc: Global, bytes: &[u8]) -> Result<(LogFront, &[u8]), FeedFault>
-    ensures log { IfOk result (λ cut. (records : List Logged) × IsFrontOf bytes.now records cut.0 × (cut.1.now ≡ log_bytes cut.0.head records)) }
-    ensures fault { IfErr result (IsAnswered bytes.now) }
+    ensures log { IfOk result (λ cut. (records : List Logged) × IsTextFrontOf bytes.now records cut.0 × (cut.1.now ≡ log_bytes cut.0.head records)) }
+    ensures fault { IfErr result (IsTextAnswered bytes.now) }
 {
+    if is_sealed(bytes) {
+        return Err(FeedFault::Header);
+    }
     let mut feed = LogFeed::keeping(alloc);
     let mut read = 0;
     while read < bytes.len() {

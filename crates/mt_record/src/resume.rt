@@ -6,8 +6,8 @@ ghost use Rattle.mt_record.specs.declared.feed.head.Head.{Head as HeadValue};
 ghost use Rattle.mt_record.specs.Spelling.{spelling};
 ghost use Rattle.mt_record.specs.Heads.{IsHead, head_bytes};
 ghost use Rattle.mt_record.specs.Logs.{LogReading, IsReading, count_of};
-ghost use Rattle.mt_record.specs.LogFaults.{IsLogFault};
-ghost use Rattle.mt_record.specs.Answered.{IsAnswered};
+ghost use Rattle.mt_record.specs.LogFaults.{IsTextFault};
+ghost use Rattle.mt_record.specs.Answered.{IsTextAnswered};
 ghost use Rattle.mt_record.specs.Decoding.{IsBody, decode};
 ghost use Rattle.mt_record.specs.Resuming.{is_end, is_ended, updates_past, marks_of, IsResumed};
 ghost use Rattle.mt_record.specs.Steps.Splits.{IsSplitOf, IsSplitIn};
@@ -51,7 +51,7 @@ pub fn resume_log(alloc: Global, bytes: &[u8], cutoff: u64) -> Result<ResumedLog
         new.dropped ≡ count_of (updates_past cutoff log.records)) }
     ensures changed { IfOk result (λ new.
         IsTrue new.changed ↔ (new.header.items ++ (new.records.now ++ new.marks.items) ≢ bytes.now)) }
-    ensures fault { IfErr result (IsAnswered bytes.now) }
+    ensures fault { IfErr result (IsTextAnswered bytes.now) }
 {
     let Some((head, rest)) = header_at(bytes) else {
         return Err(FeedFault::Header);
@@ -87,7 +87,7 @@ struct Split {
 fn split_records(format: Format, cutoff: u64, bytes: &[u8]) -> Result<Split, FeedFault>
     ensures split { IfOk result (IsSplitIn format cutoff bytes.now) }
     ensures fault { IfErr result (λ fault. (head : HeadValue) → IsHead head → head.format ≡ format →
-        IsLogFault (head_bytes head ++ bytes.now) fault) }
+        IsTextFault (head_bytes head ++ bytes.now) fault) }
 {
     let mut split = Split {
         kept: 0,

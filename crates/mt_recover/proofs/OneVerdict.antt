@@ -64,7 +64,7 @@ no_fault_at : (logs : List (List ℕ)) (readings : List LogReading) (i : ℕ) (b
     → slice_get logs i ≡ Some bytes → IsLogFault bytes fault → ⊥
 no_fault_at logs readings i bytes fault are at is_fault =
     let found = reading_at logs readings i bytes are at in
-    not_both bytes found.0.head found.0.records found.1.tail fault found.1.is_log is_fault
+    not_both bytes found.0 fault found.1 is_fault
 
 -- ---- facts
 

@@ -30,7 +30,7 @@ is_late cutoff update = nat_le cutoff update.timestamp
 abbrev pub all_versions : List LogReading → Option CheckpointReading → List ℕ
 all_versions readings chosen = map (λ update. update.stamp.version) (logged_updates readings ++ entry_updates chosen)
 
--- where the complete records of a log end: the number of bytes of its header and of these records, or 2^64 - 1 if there are more
+-- where the complete records of a log end: the number of bytes of its header and of these records, or 2^64 - 1 if there are more; in a file of format 4, those of its text
 abbrev pub end_of : LogReading → ℕ
 end_of log = count_of (log_bytes log.head log.records)
 

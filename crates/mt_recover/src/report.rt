@@ -36,7 +36,7 @@ pub struct Report {
     /// The number of log files with a hole before them: updates that may be missing after the segment directly before it.
     pub holes: usize,
     /// For each log file, in their order, where its complete records end: the number of bytes of the header and of these
-    /// records, counted up to 2^64 - 1.
+    /// records, counted up to 2^64 - 1. Of a file of format 4 these are the bytes of the log that stands in its blocks.
     pub ends: Vec<u64>,
     /// The greatest timestamp in the logs: of the times of their headers and of their complete records.
     pub last: u64,

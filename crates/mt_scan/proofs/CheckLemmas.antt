@@ -1,26 +1,22 @@
 -- The counts of a check.
-use Rattle.std.proofs.Common.{◌≡◌, ◌∙◌, ◌⊎◌, inl, inr, ℕ, ◌+◌, ◌-◌, ◌<◌, ◌≤◌, ◌^◌, min, Bool, true, false, List, [], ◌∷◌, ◌++◌, length, Option, Some, None, refl, sym, ap, subst, append_assoc, arith, cond}
-use Rattle.std.specs.Prelude.{◌&&◌, ◌↔◌, not, nat_le, IsTrue}
-use Rattle.std.proofs.lemmas.Bool.{false≢true}
+use Rattle.std.proofs.Common.{◌≡◌, ◌∙◌, ℕ, ◌+◌, ◌-◌, ◌<◌, ◌≤◌, ◌^◌, min, Bool, true, false, List, [], ◌∷◌, ◌++◌, length, Option, Some, None, refl, ap, subst, arith, cond}
+use Rattle.std.specs.Prelude.{◌&&◌, not, nat_le}
 use Rattle.std.specs.List.{All, filter, flat_map}
 use Rattle.std.proofs.lemmas.Bool.Decides.{nat_tests}
 use Rattle.std.proofs.lemmas.List.{length-append}
 use Rattle.std.proofs.lemmas.List.Elements.{All-head, All-tail, filter-append}
 use Rattle.mt_words.specs.declared.fault.What.{What}
-use Rattle.mt_words.specs.declared.limits.Limits.{Limits}
-use Rattle.mt_words.specs.Limits.{limits_of}
 use Rattle.mt_words.specs.Changes.{Logged, is_mark}
 use Rattle.mt_record.specs.Heads.{head_bytes}
 use Rattle.mt_record.specs.Spelling.{spelling}
-use Rattle.mt_record.specs.Logs.{latest, LogReading, IsReading, IsTorn}
+use Rattle.mt_record.specs.Logs.{latest, LogReading}
 use Rattle.mt_record.specs.LogTexts.{front_of, tail_rest}
 use Rattle.mt_record.specs.declared.front.LogFront.{LogFront}
-use Rattle.mt_record.specs.LogFronts.{IsRest}
 use Rattle.mt_record.specs.declared.front.Rest.{Rest}
 use Rattle.mt_record.specs.declared.front.Rest.TheVariants.{Nothing, Torn, Faulty}
-use Rattle.mt_record.proofs.Records.{torn_some}
+use Rattle.mt_record.proofs.FileFeeds.{has_read}
+use Rattle.mt_record.proofs.Opened.{reading_of_front}
 use Rattle.mt_record.proofs.LogFeeds.{front_last}
-use Rattle.mt_record.specs.declared.read.FeedFault.{FeedFault}
 use Rattle.mt_record.specs.declared.kept.log.Dropped.{Dropped}
 use Rattle.mt_record.specs.Cutting.{HasCut, IsCountOf}
 use Rattle.mt_record.specs.LogFeeding.{LogSoFar, IsLogFed, FedLog, HoldsLog}
@@ -34,14 +30,6 @@ use Rattle.mt_record.proofs.RecordLemmas.{marks_and_updates}
 use Rattle.mt_scan.proofs.DroppingFeeds.{count_both}
 use Rattle.mt_scan.proofs.SharedScans.{spelled_long}
 
--- with a fault or without, the feed has read a front of the bytes
-has_read : (feed : FedLog) (bytes : List ℕ) (taken : List Logged) → IsLogFed feed bytes taken → (front rest : List ℕ) × (bytes ≡ front ++ rest) × HoldsLog taken feed.so_far front
-has_read feed bytes taken fed = by feed.fault refl
-  where
-    by : (fault : Option FeedFault) → feed.fault ≡ fault → (front rest : List ℕ) × (bytes ≡ front ++ rest) × HoldsLog taken feed.so_far front
-    by None is = let held = fed.0 is in (held.0.front, feed.held, held.0.joins, held.0.read)
-    by (Some fault) is = let shown = fed.1 fault is in (shown.read.front, shown.shown ++ shown.more, shown.read.joins, shown.read.read)
-
 few_held : (taken : List Logged) (so_far : LogSoFar) (front : List ℕ) → HoldsLog taken so_far front → length (taken ++ so_far.ready) ≤ length front
 few_held taken so_far front h = by so_far.front refl
   where
@@ -54,7 +42,7 @@ few_held taken so_far front h = by so_far.front refl
 
 -- there are no more records than bytes
 few_read : (feed : FedLog) (bytes : List ℕ) (taken : List Logged) → IsLogFed feed bytes taken → length (taken ++ feed.so_far.ready) ≤ length bytes
-few_read feed bytes taken fed = let (front, rest, joins, read) = has_read feed bytes taken fed in omega (arith, ap length joins, length-append front rest, few_held taken feed.so_far front read)
+few_read feed bytes taken fed = let (front, read, short) = has_read feed bytes taken fed in omega (arith, short, few_held taken feed.so_far front read)
 
 rise_low : (low : ℕ) (xs : List Logged) → Rise low xs → Rise 0 xs
 rise_low low [] rise = tt
@@ -116,7 +104,7 @@ counts_more old new fed before bytes late others h small same feeds drops droppe
     let limit = old.limit in
     let ready = fed.so_far.ready in
     let was = feeds h.records h.fed in
-    let (front, rest, joins, read) = has_read fed bytes h.records was in
+    let (front, read, short) = has_read fed bytes h.records was in
     let number = few_read fed bytes h.records was in
     let rise = rise_behind 0 h.records ready (read_rise h.records fed.so_far front read) in
     let kept_rise = rise_low (latest 0 h.records) kept (rise_front (latest 0 h.records) kept cut.late (subst (Rise (latest 0 h.records)) cut.joins rise)) in
@@ -136,37 +124,19 @@ counts_more old new fed before bytes late others h small same feeds drops droppe
 
 -- ---- the front of a check
 
--- the tail after the records is empty or torn, as the scan says
-has_end : (limits : Limits) (low : ℕ) (tail : List ℕ) (rest : Rest) (torn : Bool) → IsRest limits low tail rest → ((rest ≡ Nothing) × (torn ≡ false)) ⊎ ((rest ≡ Torn) × (torn ≡ true))
-    → ((tail ≡ []) ⊎ IsTorn limits tail) × (IsTrue torn ↔ IsTorn limits tail)
-has_end limits low tail rest torn is (inl (nothing, not_torn)) =
-    let empty : tail ≡ [] = rw nothing at is in
-    (inl empty, (λ yes. absurd (false≢true (sym not_torn ∙ yes)), λ cut. absurd (let some = torn_some limits tail cut in let none = ap length empty in omega (arith, some, none))))
-has_end limits low tail rest torn is (inr (cut, is_torn)) =
-    let torn_is : IsTorn limits tail = rw cut at is in
-    (inr torn_is, (λ yes. torn_is, λ other. is_torn))
-
 -- the front of a log whose records are followed by nothing or a torn tail
-front_with : (limit : ℕ) (bytes : List ℕ) (check : LogCheck) (torn : Bool) → IsCheckOf limit bytes check
-    → ((check.front.rest ≡ Nothing) × (torn ≡ false)) ⊎ ((check.front.rest ≡ Torn) × (torn ≡ true)) → check.front.rest ≡ tail_rest torn → IsSoundFront bytes check.front
-front_with limit bytes check torn is ends rest =
+front_with : (limit : ℕ) (bytes : List ℕ) (check : LogCheck) (torn : Bool) → IsCheckOf limit bytes check → check.front.rest ≡ tail_rest torn → IsSoundFront bytes check.front
+front_with limit bytes check torn is rest =
     let front = is.front in
-    let head = check.front.head in
-    let limits = limits_of head.format in
-    let reading : LogReading = record { head = head; records = is.records; torn = torn } in
-    let end = has_end limits (latest 0 is.records) front.rest check.front.rest torn front.is_rest ends in
-    let is_reading : IsReading bytes reading = record {
-      tail = front.rest;
-      is_log = record { spelled = front.spelled ∙ append_assoc (head_bytes head) (flat_map spelling is.records) front.rest; is_head = front.is_head; lawful = front.lawful; ends = end.0 };
-      torn = end.1;
-    } in
-    let same = front.numbers ∙ ap (front_of head is.records) rest in
+    let reading : LogReading = record { head = check.front.head; records = is.records; torn = torn } in
+    let is_reading = reading_of_front bytes is.records check.front torn front rest in
+    let same = front.numbers ∙ ap (front_of check.front.head is.records) rest in
     record { log = reading; is_reading = is_reading; shows = record { is = same; last = front_last bytes reading check.front (last_in check.front) refl is_reading same; count = is.count } }
 
 pub front_of_check : (limit : ℕ) (bytes : List ℕ) (check : LogCheck) → IsCheckOf limit bytes check → ((what : What) → check.front.rest ≡ Faulty what → ⊥) → IsSoundFront bytes check.front
 front_of_check limit bytes check is sound = by check.front.rest refl
   where
     by : (rest : Rest) → check.front.rest ≡ rest → IsSoundFront bytes check.front
-    by Nothing e = front_with limit bytes check false is (inl (e, refl)) e
-    by Torn e = front_with limit bytes check true is (inr (e, refl)) e
+    by Nothing e = front_with limit bytes check false is e
+    by Torn e = front_with limit bytes check true is e
     by (Faulty what) e = absurd (sound what e)

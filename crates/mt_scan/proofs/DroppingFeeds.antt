@@ -10,8 +10,8 @@ use Rattle.std.proofs.lemmas.List.Elements.{All-weaker, All-append, filter-appen
 use Rattle.mt_words.specs.Changes.{Logged, is_mark}
 use Rattle.mt_record.specs.Logs.{latest}
 use Rattle.mt_record.specs.declared.read.FeedFault.{FeedFault}
-use Rattle.mt_record.specs.LogFeeding.{latest_read, IsLogFed, FedLog, HoldsLog, IsLogLeft, IsLogFaulty}
-use Rattle.mt_record.proofs.Feeds.{fed_on}
+use Rattle.mt_record.specs.LogFeeding.{latest_read, IsLogFed, FedLog}
+use Rattle.mt_record.proofs.FileFeeds.{has_read, log_fed_on}
 use Rattle.mt_record.specs.declared.kept.log.Dropped.{Dropped}
 use Rattle.mt_record.specs.Cutting.{HasCut, IsCountOf}
 use Rattle.mt_record.proofs.RecordLemmas.{marks_and_updates}
@@ -19,13 +19,13 @@ use Rattle.mt_scan.specs.declared.dropping_feed.DroppingFeed.{DroppingFeed}
 use Rattle.mt_scan.specs.Steps.DroppingFeeds.{taken_of, GoesOn, KeepsRecords, HasDropped, IsFedBelow}
 use Rattle.mt_scan.proofs.Rises.{Rise, read_rise, read_latest, latest_behind, rise_front, rise_behind, never_falls, all_past, all_below, cut_below}
 
--- the records that a feed without a fault has read
-module _ (feed : FedLog) (bytes taken : List _) (fed : IsLogFed feed bytes taken) (sound : feed.fault ≡ None) where
+-- the records that a feed has read
+module _ (feed : FedLog) (bytes taken : List _) (fed : IsLogFed feed bytes taken) where
   pub fed_rise : Rise 0 (taken ++ feed.so_far.ready)
-  fed_rise = let held = fed.0 sound in read_rise taken feed.so_far held.0.front held.0.read
+  fed_rise = let (front, read, short) = has_read feed bytes taken fed in read_rise taken feed.so_far front read
 
   pub fed_latest : latest_read feed.so_far.front ≡ latest 0 (taken ++ feed.so_far.ready)
-  fed_latest = let held = fed.0 sound in read_latest taken feed.so_far held.0.front held.0.read
+  fed_latest = let (front, read, short) = has_read feed bytes taken fed in read_latest taken feed.so_far front read
 
 -- what was read under one limit holds under a lower one
 lowered : (feed : DroppingFeed) (limit lower : ℕ) (bytes : List ℕ) → lower ≤ limit → HasDropped feed limit bytes → HasDropped feed lower bytes
@@ -50,8 +50,8 @@ none_late feed limit bytes h sound none below =
     let late : h.late ≡ [] = rw none at (h.goes_on sound) in
     let taken : taken_of feed.kept ++ h.late ≡ [] = (λ i. taken_of (none i) ++ late i) in
     let fed = subst (IsLogFed feed.feed bytes) taken h.fed in
-    let rise = fed_rise feed.feed bytes [] fed sound in
-    let last = fed_latest feed.feed bytes [] fed sound in
+    let rise = fed_rise feed.feed bytes [] fed in
+    let last = fed_latest feed.feed bytes [] fed in
     let all = all_below 0 limit feed.feed.so_far.ready rise (omega (arith, last, below)) in
     record { read = h; keeps = λ sound. rw none all }
 
@@ -70,7 +70,7 @@ pub more_late : (old new : DroppingFeed) (limit : ℕ) (bytes : List ℕ) (was k
 more_late old new limit bytes was kept gone later h sound some same taken_is feeds went cut marks dropped =
     let ready : List Logged = old.feed.so_far.ready in
     let goes_on : limit ≤ latest 0 (was ++ h.late) = rw some at (h.goes_on sound) in
-    let rise : Rise 0 ((was ++ h.late) ++ ready) = subst (λ (k : Option (List Logged)). Rise 0 ((taken_of k ++ h.late) ++ ready)) some (fed_rise old.feed bytes (taken_of old.kept ++ h.late) h.fed sound) in
+    let rise : Rise 0 ((was ++ h.late) ++ ready) = subst (λ (k : Option (List Logged)). Rise 0 ((taken_of k ++ h.late) ++ ready)) some (fed_rise old.feed bytes (taken_of old.kept ++ h.late) h.fed) in
     let past = all_past limit (latest 0 (was ++ h.late)) ready (rise_behind 0 (was ++ h.late) ready rise) goes_on in
     let up = never_falls (latest 0 (was ++ h.late)) ready (rise_behind 0 (was ++ h.late) ready rise) in
     let last = latest_behind 0 (was ++ h.late) ready in
@@ -110,8 +110,8 @@ first_late old new limit bytes kept gone h sound none some taken_is feeds cut pa
     let late : h.late ≡ [] = rw none at (h.goes_on sound) in
     let taken : taken_of old.kept ++ h.late ≡ [] = (λ i. taken_of (none i) ++ late i) in
     let fed = subst (IsLogFed old.feed bytes) taken h.fed in
-    let rise = fed_rise old.feed bytes [] fed sound in
-    let last = fed_latest old.feed bytes [] fed sound in
+    let rise = fed_rise old.feed bytes [] fed in
+    let last = fed_latest old.feed bytes [] fed in
     let kept_rise : Rise 0 kept = rise_front 0 kept cut.late (subst (Rise 0) cut.joins rise) in
     let no_marks : length (filter is_mark h.late) ≡ 0 = ap (λ (l : List Logged). length (filter is_mark l)) late in
     let read : HasDropped new limit bytes = record {
@@ -132,7 +132,7 @@ stays_fed feed limit bytes more stopped h =
     record {
       read = record {
         late = h.read.late;
-        fed = fed_on (HoldsLog (taken_of feed.kept ++ h.read.late)) IsLogLeft IsLogFaulty feed.feed.so_far feed.feed.held feed.feed.fault there.0 bytes more there.1 h.read.fed;
+        fed = log_fed_on feed.feed there.0 bytes more (taken_of feed.kept ++ h.read.late) there.1 h.read.fed;
         past = h.read.past;
         marks = h.read.marks;
         dropped = h.read.dropped;

@@ -14,6 +14,7 @@ use Rattle.mt_record.specs.Logs.{LogReading, IsReading}
 use Rattle.mt_record.specs.declared.front.LogFront.{LogFront}
 use Rattle.mt_record.specs.LogTexts.{front_in, IsTextIn}
 use Rattle.mt_record.proofs.LogFeeds.{front_last}
+use Rattle.mt_record.proofs.Opened.{text_long}
 use Rattle.mt_record.proofs.RecordLemmas.{marks_and_updates}
 use Rattle.mt_scan.specs.declared.dropping_feed.DroppingFeed.{DroppingFeed}
 use Rattle.mt_scan.specs.declared.log_scan.LogScan.{LogScan}
@@ -33,7 +34,8 @@ spelled_long (r ∷ rs) =
 pub reading_long : (bytes : List ℕ) (log : LogReading) → IsReading bytes log → length log.records ≤ length bytes
 reading_long bytes log is =
     let spelled = ap length is.is_log.spelled in
-    omega (arith, spelled, length-append (head_bytes log.head) (flat_map spelling log.records ++ is.tail), length-append (flat_map spelling log.records) is.tail, spelled_long log.records)
+    let all = text_long bytes is.text is.ended is.opens in
+    omega (arith, spelled, all, length-append (head_bytes log.head) (flat_map spelling log.records ++ is.tail), length-append (flat_map spelling log.records) is.tail, spelled_long log.records)
 
 updates_both : (log nth : ℕ) (xs ys : List Logged) → updates_from log nth xs ++ updates_from log (nth + length xs) ys ≡ updates_from log nth (xs ++ ys)
 updates_both log nth [] ys = ap (λ (n : ℕ). updates_from log n ys) (omega arith)

@@ -50,6 +50,9 @@ pub enum What {
     /// The timestamp is below that of the record before it.
     #[error("clock")]
     Clock,
+    /// A block of a file of format 4 is damaged: its checksum is not that of its bytes.
+    #[error("checksum")]
+    Checksum,
 }
 
 /// The reason why there is no store. The variants stand in the order of their numbers, from 1 on (`number`); the order

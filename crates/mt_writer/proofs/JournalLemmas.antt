@@ -2,7 +2,6 @@
 use Rattle.std.proofs.Common.{◌≡◌, inl, inr, ℕ, ◌+◌, ◌-◌, ◌^◌, ◌<◌, ◌≤◌, List, [], ◌∷◌, ◌++◌, length, map, min, refl, sym, ap, ◌∙◌, subst, append_assoc, arith}
 use Rattle.std.specs.Prelude.{true, false, ◌↔◌, Contains}
 use Rattle.std.specs.List.{flat_map}
-use Rattle.std.proofs.lemmas.Bool.{false≢true}
 use Rattle.std.proofs.lemmas.List.{append-nil, length-append}
 use Rattle.std.proofs.lemmas.List.Concat.{flat_map-append}
 use Rattle.std.proofs.lemmas.List.Elements.{Contains-append_left}
@@ -17,11 +16,11 @@ use Rattle.byteorder.specs.Endian.{big_bytes}
 use Rattle.mt_record.specs.Spelling.{body, spelling}
 use Rattle.mt_record.specs.Logs.{AreRecords, latest, log_bytes, LogReading, IsReading, times_of}
 use Rattle.mt_record.specs.declared.read.TheConstants.{MOST_BYTES}
-use Rattle.mt_record.specs.declared.front.Rest.{Rest}
 use Rattle.mt_record.specs.declared.front.LogFront.{LogFront}
-use Rattle.mt_record.specs.LogFronts.{IsRest, IsFrontOf}
+use Rattle.mt_record.specs.LogFronts.{IsTextRest, IsTextFrontOf}
 use Rattle.mt_record.proofs.Lawful.{lawful_length}
-use Rattle.mt_record.proofs.Records.{records_push, latest_push, torn_some}
+use Rattle.mt_record.proofs.Records.{records_push, latest_push}
+use Rattle.mt_record.proofs.Opened.{whole_reading}
 use Rattle.mt_record.proofs.OneReading.{one_reading_of}
 use Rattle.mt_writer.specs.declared.log_writer.TheConstants.{LONGEST_RECORD}
 use Rattle.mt_writer.specs.Files.{OpenFile, file_bytes, file_reading, HasSynced, IsOpenFile, IsCutOf, IsWritten, IsSynced}
@@ -55,20 +54,6 @@ pub more_bytes : (head : Head) (rs ss : List Logged) → log_bytes head (rs ++ s
 more_bytes head rs ss = ap (λ (x : List ℕ). head_bytes head ++ x) (flat_map-append spelling rs ss) ∙ sym (append_assoc (head_bytes head) (flat_map spelling rs) (flat_map spelling ss))
 
 -- ---- files
-
--- the bytes of lawful records are a log
-pub whole_reading : (head : Head) (rs : List Logged) → IsHead head → AreRecords (limits_of head.format) 0 rs
-    → IsReading (log_bytes head rs) (record { head = head; records = rs; torn = false })
-whole_reading head rs is_head lawful = record {
-  tail = [];
-  is_log = record {
-    spelled = ap (λ (x : List ℕ). head_bytes head ++ x) (sym (append-nil (flat_map spelling rs)));
-    is_head = is_head;
-    lawful = lawful;
-    ends = inl refl;
-  };
-  torn = (λ t. absurd (false≢true t), λ torn. absurd (omega (arith, torn_some (limits_of head.format) [] torn)));
-}
 
 -- a record is synced of a file of which the bytes up to some record are
 pub has_synced : (P : Logged → Type 0) (head : Head) (records synced : List Logged) (q : Logged) → IsHead head → AreRecords (limits_of head.format) 0 synced
@@ -332,7 +317,7 @@ exact n count is small = omega (arith, is)
 some_counted : (n count : ℕ) → count ≡ min n (2 ^ 64 - 1) → 0 < count → 0 < n
 some_counted n count is some = omega (arith, is)
 
-pub resumed_keeps : (front : LogFront) (bytes : List ℕ) (records : List Logged) (w : Writer) → IsFrontOf bytes records front → MayGoOn front
+pub resumed_keeps : (front : LogFront) (bytes : List ℕ) (records : List Logged) (w : Writer) → IsTextFrontOf bytes records front → MayGoOn front
     → w ≡ record { buffer = []; last = front.latest; taken = front.latest; reach = front.latest; size = front.bytes; taken_size = front.bytes; synced_size = front.bytes; segment = front.head.segment; failed = false }
     → Keeps w (read_back front.head records) × (bytes ≡ log_bytes front.head records)
 resumed_keeps front bytes records w is may same =
@@ -342,7 +327,7 @@ resumed_keeps front bytes records w is may same =
     let size : front.bytes ≡ length (log_bytes front.head records) = exact (length (log_bytes front.head records)) front.bytes (ap (λ (f : LogFront). f.bytes) is.numbers) may.size in
     let long = λ (rs : List Logged). length (log_bytes front.head rs) in
     let lawful = subst (λ (f : Format). AreRecords (limits_of f) 0 records) may.format is.lawful in
-    let rest : is.rest ≡ [] = subst (λ (r : Rest). IsRest (limits_of front.head.format) (latest 0 records) is.rest r) may.rest is.is_rest in (
+    let rest : is.rest ≡ [] = subst (IsTextRest (limits_of front.head.format) (latest 0 records) is.rest) may.rest is.is_rest in (
       subst (λ (x : Writer). Keeps x (read_back front.head records)) (sym same) (record {
         format = may.format;
         is_head = is.is_head;

@@ -6,7 +6,7 @@ ghost use Rattle.mt_words.specs.Built.{mark_of, put_of, remove_of, erase_of};
 ghost use Rattle.mt_words.specs.declared.update.Kind.TheVariants as kinds;
 ghost use Rattle.mt_record.specs.Given.{column_of, kind_of, change_of};
 ghost use Rattle.mt_record.specs.Logs.{log_bytes};
-ghost use Rattle.mt_record.specs.LogFronts.{IsFrontOf};
+ghost use Rattle.mt_record.specs.LogFronts.{IsTextFrontOf};
 ghost use Rattle.mt_record.specs.Resuming.{greatest_timestamp};
 ghost use Rattle.mt_writer.specs.Files.{file_bytes};
 ghost use Rattle.mt_writer.specs.Journals.{Journal, Keeps, file_of, handed_out, holding, taking, syncing, read_back, MayGoOn, IsReached, IsSealed};
@@ -71,12 +71,12 @@ impl Model for LogWriter {
 }
 
 impl LogWriter {
-    /// Goes on with a log that was resumed, of which all bytes are synced and this is the front. Returns None if the
-    /// log has no record at or past its `from`, does not end with a record, is of format 1, or has more than
-    /// `MOST_BYTES`.
+    /// Goes on with a log that was resumed, a file of format 2 or 3 of which all bytes are synced and this is the front.
+    /// Returns None if the log has no record at or past its `from`, does not end with a record, is of format 1, or has
+    /// more than `MOST_BYTES`.
     pub fn resumed(alloc: Global, front: LogFront) -> Option<LogWriter>
         ensures accepted { IsSome result ↔ MayGoOn front }
-        ensures value { (bytes : List ℕ) (records : List Logged) → IsFrontOf bytes records front →
+        ensures value { (bytes : List ℕ) (records : List Logged) → IsTextFrontOf bytes records front →
             IfSome result (λ writer. Keeps writer (read_back front.head records) × (bytes ≡ log_bytes front.head records)) }
         ensures failed { IfSome result (λ writer. writer.failed ≡ false) }
     {

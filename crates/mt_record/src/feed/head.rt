@@ -5,6 +5,7 @@ ghost use Rattle.std.specs.Prelude.{◌≡◌, ◌≢◌, ◌<◌, ◌++◌, Lis
 ghost use Rattle.mt_record.specs.Fronts.{FindsFront, GoesWithLog};
 ghost use Rattle.mt_record.specs.declared.feed.head.Head.{Head as HeadValue};
 ghost use Rattle.mt_record.specs.Heads.{IsHead, head_bytes, HasNoHeader};
+ghost use Rattle.mt_record.specs.Opening.{IsSealed};
 
 use crate::body::fields::{u32_at, u64_at};
 use crate::feed::magic::{NoMagic, format_at, goes_with_magic};
@@ -15,6 +16,9 @@ pub const LOG: &[u8] = b"MTL";
 
 /// The magic that a segment of a worker's log begins with. Its records are those of format 2.
 pub const SEGMENT: &[u8] = b"MTL3";
+
+/// The magic that a file of format 4 begins with.
+pub const BLOCKS: &[u8] = b"MTL4";
 
 /// The number of bytes in the header of a log that is no segment.
 pub const HEADER_BYTES: usize = 12;
@@ -41,7 +45,15 @@ pub struct Head {
     pub segment: Option<Segment>,
 }
 
-/// Returns the header at the front and the bytes after it. Returns None if the bytes do not begin with a header.
+/// Returns whether the bytes begin with the magic of format 4.
+pub fn is_sealed(bytes: &[u8]) -> bool
+    ensures { MatchBool result (IsSealed bytes.now) (IsSealed bytes.now → ⊥) }
+{
+    bytes.starts_with(BLOCKS)
+}
+
+/// Returns the header at the front and the bytes after it. Returns None if the bytes do not begin with a header, as
+/// those of a file of format 4.
 pub fn header_at(bytes: &[u8]) -> Option<(Head, &[u8])>
     ensures found { IfSome result (λ x. IsHead x.0 × (bytes.now ≡ head_bytes x.0 ++ x.1.now)) }
     ensures none { IfNone result (HasNoHeader bytes.now) }

@@ -10,8 +10,7 @@ ghost use Rattle.mt_record.specs.Answered.{IsAnswered};
 ghost use Rattle.mt_record.specs.LogFronts.{IsFrontOf};
 ghost use Rattle.mt_record.specs.LogFeeding.{latest_read, IsLogFed, ShowsNoFault, IsShown};
 
-use crate::feed::Feed;
-use crate::feed::log_items::LogItems;
+use crate::feed::file_feed::FileFeed;
 use crate::front::{LogFront, Rest};
 use crate::kept::Records;
 use crate::kept::log::{Dropped, KeptRecords};
@@ -26,16 +25,15 @@ use std::mem;
 /// chunk. The work is linear in the number of bytes, however they are cut.
 #[derive(Drop)]
 pub struct LogFeed<R: Records = Vec<Record>> {
-    feed: Feed<LogItems<R>>,
+    file: FileFeed<R>,
 }
 
 impl<R: Records> Model for LogFeed<R> {
-    ghost use Rattle.mt_record.specs.Feeding.{fed_by};
-    ghost use Rattle.mt_record.specs.LogFeeding.{log_so_far, FedLog};
+    ghost use Rattle.mt_record.specs.LogFeeding.{fed_log, FedLog};
 
     ghost Value = { FedLog };
 
-    ghost view = { λ f. fed_by (log_so_far R.listed) f.feed };
+    ghost view = { λ f. fed_log R.listed f.file };
 }
 
 impl LogFeed {
@@ -55,7 +53,7 @@ impl LogFeed {
         ensures records { result.items ≡ self.old.so_far.ready }
         ensures rest { self.new ≡ record self.old { so_far = record self.old.so_far { ready = [] } } }
     {
-        let ready = &mut self.feed.items.ready;
+        let ready = &mut self.file.blocks.items.inner.items.ready;
         let alloc = *ready.allocator();
         mem::replace(ready, Vec::new(alloc))
     }
@@ -74,7 +72,7 @@ impl LogFeed<KeptRecords> {
     pub fn latest(&self) -> u64
         ensures { result ≡ latest_read self.now.so_far.front }
     {
-        match self.feed.items.front {
+        match self.file.blocks.items.inner.items.front {
             None => 0,
             Some(front) => front.latest,
         }
@@ -87,7 +85,7 @@ impl LogFeed<KeptRecords> {
         ensures records { result ≡ self.old.so_far.ready }
         ensures rest { self.new ≡ record self.old { so_far = record self.old.so_far { ready = [] } } }
     {
-        let ready = &mut self.feed.items.ready;
+        let ready = &mut self.file.blocks.items.inner.items.ready;
         let none = ready.none();
         mem::replace(ready, none)
     }
@@ -99,7 +97,7 @@ impl LogFeed<KeptRecords> {
         ensures gone { IsCountOf self.old.so_far.ready result }
         ensures rest { self.new ≡ record self.old { so_far = record self.old.so_far { ready = [] } } }
     {
-        self.feed.items.ready.clear()
+        self.file.blocks.items.inner.items.ready.clear()
     }
 
     /// Drops the records that `take_kept` would take. Returns first how many updates and marks at or past `limit` they
@@ -110,7 +108,7 @@ impl LogFeed<KeptRecords> {
         ensures gone { (before : List Logged) × HasCut limit self.old.so_far.ready before result.0 × IsCountOf before result.1 }
         ensures rest { self.new ≡ record self.old { so_far = record self.old.so_far { ready = [] } } }
     {
-        let ready = &mut self.feed.items.ready;
+        let ready = &mut self.file.blocks.items.inner.items.ready;
         let late = ready.cut(limit);
         (late, ready.clear())
     }
@@ -123,12 +121,8 @@ impl<R: Records> LogFeed<R> {
         ensures fed { IsLogFed result [] [] }
         ensures sound { result.fault ≡ None }
     {
-        let items = LogItems {
-            front: None,
-            ready: records,
-        };
         LogFeed {
-            feed: Feed::new(alloc, items),
+            file: FileFeed::new(alloc, records),
         }
     }
 
@@ -147,7 +141,7 @@ impl<R: Records> LogFeed<R> {
         ensures again { (fault : FaultValue) → self.old.fault ≡ Some fault → result ≡ Err fault }
         ensures stays { IsSome self.old.fault → self.new ≡ self.old }
     {
-        self.feed.feed(piece)
+        self.file.read(piece)
     }
 
     /// Returns what the bytes say as a log, with the records not yet taken.
@@ -160,12 +154,12 @@ impl<R: Records> LogFeed<R> {
         ensures ready { IfOk result (λ text. R.listed text.records ≡ self.so_far.ready) }
         ensures again { (fault : FaultValue) → self.fault ≡ Some fault → result ≡ Err fault }
     {
-        if let Some(fault) = self.feed.fault {
+        if let Some(fault) = self.file.fault() {
             return Err(fault);
         }
         Ok(LogText {
             front: self.front()?,
-            records: self.feed.items.ready,
+            records: self.file.blocks.items.inner.items.ready,
         })
     }
 
@@ -178,13 +172,20 @@ impl<R: Records> LogFeed<R> {
             IfErr result (IsAnswered bytes) }
         ensures sound { (what : WhatValue) → self.now.fault ≡ None → IfOk result (λ front. front.rest ≢ Faulty what) }
     {
-        let rest = match self.feed.fault {
+        let rest = match self.file.fault() {
             Some(FeedFault::Record { nth: _, what }) => Rest::Faulty(what),
             Some(fault) => return Err(fault),
-            None if self.feed.held.is_empty() => Rest::Nothing,
+            None if self.file.is_all_read() => Rest::Nothing,
             None => Rest::Torn,
         };
-        let front = self.feed.items.front.ok_or(FeedFault::Header)?;
+        let front = self
+            .file
+            .blocks
+            .items
+            .inner
+            .items
+            .front
+            .ok_or(FeedFault::Header)?;
         Ok(LogFront { rest, ..front })
     }
 }

@@ -1,9 +1,10 @@
 //! The items of a log, in order: its header and its records.
 ghost use Rattle.std.specs.Prelude.{◌≡◌, List, ℕ, None, Some};
 ghost use Rattle.mt_words.specs.Changes.{Logged};
-ghost use Rattle.mt_record.specs.LogFeeding.{log_so_far, HoldsLog, IsLogLeft, IsLogFaulty, StepsLog};
+ghost use Rattle.mt_record.specs.LogFeeding.{log_so_far, HoldsLog, IsLogLeft, IsLogFaulty, StepsLog, damage_after};
 
 use crate::body::spelled;
+use crate::feed::blocks::Sealed;
 use crate::feed::frame::{frame_wanted, next_record};
 use crate::feed::head::{head_bytes_wanted, next_header};
 use crate::feed::items::{Items, Step};
@@ -11,6 +12,7 @@ use crate::feed::magic::NoMagic;
 use crate::front::{LogFront, Rest};
 use crate::kept::Records;
 use crate::read::FeedFault;
+use mt_words::What;
 
 /// What was read of a log so far.
 #[derive(Drop)]
@@ -48,6 +50,21 @@ impl<R: Records> Items for LogItems<R> {
     }
 
     ghost refused = { λ items rest memory fault is. Prim.rw is tt };
+}
+
+impl<R: Records> Sealed for LogItems<R> {
+    ghost damage = { λ items. damage_after (log_so_far R.listed items) };
+
+    fn damaged(&self) -> FeedFault {
+        let nth = match self.front {
+            Some(front) => front.count,
+            None => 0,
+        };
+        FeedFault::Record {
+            nth,
+            what: What::Checksum,
+        }
+    }
 }
 
 impl<R: Records> LogItems<R> {

@@ -2,6 +2,7 @@ use Rattle.std.proofs.Common.{◌≡◌, ◌↔◌, ◌∙◌, ◌++◌, List, �
 use Rattle.std.specs.List.{flat_map}
 use Rattle.mt_record.specs.Spelling.{spelling}
 use Rattle.mt_record.proofs.OneLog.{same_head}
+use Rattle.mt_record.proofs.Opened.{plain_log}
 use Rattle.mt_c.specs.Buffers.{Writes}
 use Rattle.mt_c.specs.Formats.{log_number}
 use Rattle.mt_c.specs.Resumes.{EndsWith}
@@ -22,7 +23,9 @@ returns-in-Ok-resume_log-clause-written c = λ room _.
       bytes = bytes;
       is_resumed = is.log;
       dropped = is.dropped;
-      format = λ reading reads. c.log_number.ensures ∙ ap log_number (same_head head reading.head c.in-Some.field-0-1.now (flat_map spelling reading.records ++ reads.tail) found.0 reads.is_log.is_head (sym found.1 ∙ reads.is_log.spelled)).0;
+      format = λ reading reads.
+          let log = plain_log c.args.log.now reading reads head c.in-Some.field-0-1.now found.1 in
+          c.log_number.ensures ∙ ap log_number (same_head head reading.head c.in-Some.field-0-1.now (flat_map spelling reading.records ++ reads.tail) found.0 log.is_head (sym found.1 ∙ log.spelled)).0;
       changed = is.changed;
       ended = subst (λ (last : List ℕ). IsTrue c.end_with.result ↔ EndsWith bytes last) end (subst (λ (whole : List ℕ). IsTrue c.end_with.result ↔ EndsWith whole c.deref-in-Ok-resume_log-4.result.now) ends c.end_with.ensures);
       written = subst (λ (whole : List ℕ). Writes whole c.args.out.now write.new.out write.new.count write.result) wrote (write.ensures.written room);

@@ -2,7 +2,10 @@ use Rattle.std.proofs.Common.{◌≡◌, ◌≤◌, ◌++◌, List, ℕ, length,
 use Rattle.std.proofs.lemmas.List.{take_all, length-take-le}
 use Rattle.std.proofs.lemmas.Grind.{common_steps}
 use Rattle.mt_record.specs.LogFeeding.{IsLogFed}
+use Rattle.std.proofs.lemmas.Result.{err_from_is_err_and}
+use Rattle.mt_record.specs.LogFaults.{IsLogFault}
 use Rattle.mt_record.specs.LogFronts.{IsFrontOf}
+use Rattle.mt_record.proofs.Opened.{text_front, text_fault_of}
 use Rattle.mt_record.proofs.LogFeeds.{front_bytes, chunk_read}
 use Rattle.mt_record.proofs.read.cut_log.Goals as goal
 
@@ -26,7 +29,8 @@ slice_bounds-result-end c =
     let I = c.loop-read.invariant in
     let front = c.in_ok-front.front in
     let all : take c.loop-read.read bytes ≡ bytes = take_all c.loop-read.read bytes (omega (arith, c.loop-read-test.false)) in
-    let is = subst (λ (b : List ℕ). IsFrontOf b (I.taken ++ c.loop-read.feed.so_far.ready) front) all (c.in_ok-front.ensures.front (take c.loop-read.read bytes) I.taken I.fed) in
+    let of_file = subst (λ (b : List ℕ). IsFrontOf b (I.taken ++ c.loop-read.feed.so_far.ready) front) all (c.in_ok-front.ensures.front (take c.loop-read.read bytes) I.taken I.fed) in
+    let is = text_front bytes (I.taken ++ c.loop-read.feed.so_far.ready) front (rw c.if-is_sealed.false at c.is_sealed.ensures) of_file in
     let cut = front_bytes bytes (I.taken ++ c.loop-read.feed.so_far.ready) front (omega (arith, c.loop-read-test.false, c.loop-read.auto.read-fits)) is in
     sym (length-take-le front.bytes bytes cut.0)
 
@@ -36,6 +40,15 @@ returns-clause-log c =
     let I = c.loop-read.invariant in
     let front = c.in_ok-front.front in
     let all : take c.loop-read.read bytes ≡ bytes = take_all c.loop-read.read bytes (omega (arith, c.loop-read-test.false)) in
-    let is = subst (λ (b : List ℕ). IsFrontOf b (I.taken ++ c.loop-read.feed.so_far.ready) front) all (c.in_ok-front.ensures.front (take c.loop-read.read bytes) I.taken I.fed) in
+    let of_file = subst (λ (b : List ℕ). IsFrontOf b (I.taken ++ c.loop-read.feed.so_far.ready) front) all (c.in_ok-front.ensures.front (take c.loop-read.read bytes) I.taken I.fed) in
+    let is = text_front bytes (I.taken ++ c.loop-read.feed.so_far.ready) front (rw c.if-is_sealed.false at c.is_sealed.ensures) of_file in
     let cut = front_bytes bytes (I.taken ++ c.loop-read.feed.so_far.ready) front (omega (arith, c.loop-read-test.false, c.loop-read.auto.read-fits)) is in
     (I.taken ++ c.loop-read.feed.so_far.ready, is, cut.1)
+
+pub returns-in_err-front-clause-fault : goal.returns-in_err-front-clause-fault
+returns-in_err-front-clause-fault c =
+    let bytes = c.args.bytes.now in
+    let I = c.loop-read.invariant in
+    let all : take c.loop-read.read bytes ≡ bytes = take_all c.loop-read.read bytes (omega (arith, c.loop-read-test.false)) in
+    let p = err_from_is_err_and c.from_residual.result c.from_residual.ensures.1 in
+    rw (p.1, p.2) (λ other. text_fault_of bytes c.in_err-front.field-0.0 (rw c.if-is_sealed.false at c.is_sealed.ensures) (subst (λ (b : List ℕ). IsLogFault b c.in_err-front.field-0.0) all (c.in_err-front.ensures.fault (take c.loop-read.read bytes) I.taken I.fed other)))

@@ -1,6 +1,6 @@
 use Rattle.std.proofs.Common.{[]}
 use Rattle.std.proofs.lemmas.Result.{err_from_is_err_and}
-use Rattle.mt_record.proofs.LogFeeds.{shown_fault}
+use Rattle.mt_record.proofs.FileFeeds.{shown_fault}
 use Rattle.mt_record.proofs.read.read_log.Goals as goal
 
 pub returns-in_err-feed-clause-fault : goal.returns-in_err-feed-clause-fault

@@ -46,7 +46,7 @@ use Rattle.mt_c.specs.contracts.held.Held as held
 use Rattle.mt_c.specs.contracts.place.Handle.{the_row, the_type}
 
 log_send : IsSend log.the_row
-log_send = search (sendable, crosses) depth 40 fits 20000
+log_send = search (sendable, crosses) depth 100 fits 20000
 
 part_send : IsSend part.the_row
 part_send = search (sendable, crosses) depth 40 fits 20000

@@ -1,6 +1,6 @@
 use Rattle.std.proofs.Common.{◌++◌, ℕ, ◌+◌, ◌-◌, ◌^◌, min, refl, sym, ap, ◌∙◌}
-use Rattle.mt_record.specs.LogFeeding.{FedLog, HoldsLog, IsLogLeft, IsLogFaulty}
-use Rattle.mt_record.proofs.Feeds.{fed_on}
+use Rattle.mt_record.specs.LogFeeding.{FedLog}
+use Rattle.mt_record.proofs.FileFeeds.{log_fed_on}
 use Rattle.mt_scan.specs.declared.checking.CheckingFeed.{CheckingFeed}
 use Rattle.mt_scan.proofs.Steps.{has_fault}
 use Rattle.mt_scan.proofs.CheckLemmas.{counts_more}
@@ -25,7 +25,7 @@ returns-clause-stops c failed begun bytes more is =
       is.0,
       record {
         records = h.records;
-        fed = fed_on (HoldsLog h.records) IsLogLeft IsLogFaulty feed.so_far feed.held feed.fault there.0 bytes more stands h.fed;
+        fed = log_fed_on feed there.0 bytes more h.records stands h.fed;
         none = h.none;
         few = h.few;
         marks = h.marks;
