@@ -101,7 +101,7 @@ class Server:
         return self.end()
 
     def end(self):
-        err = self.process.communicate(timeout=60)[1].decode()
+        err = self.process.communicate(timeout=600)[1].decode()
         return self.process.returncode, err
 
 

@@ -116,7 +116,7 @@ def random_update(rng, form, timestamp, version):
 
 
 def run(*words, **env):
-    ran = subprocess.run([MTRECOVER, *words], capture_output=True, env={**os.environ, **env}, timeout=120)
+    ran = subprocess.run([MTRECOVER, *words], capture_output=True, env={**os.environ, **env}, timeout=600)
     return ran.returncode, ran.stdout, ran.stderr
 
 
