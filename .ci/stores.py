@@ -9,6 +9,7 @@ from functools import lru_cache
 from pathlib import Path
 from typing import NamedTuple
 
+from blocks import LOG, opened
 from counting import TOP
 from formats import ERASE, GREATEST, MARK, PUT, REMOVE, Update
 
@@ -32,7 +33,7 @@ class Log(NamedTuple):
     segment: int
     kinds: list
     times: list
-    ends: list  # the byte at which each record ends
+    ends: list  # the byte at which each record ends; in format 4, of the text in the blocks
 
     def last(self):
         return max(self.times, default=self.start)
@@ -42,7 +43,7 @@ class Log(NamedTuple):
 
     def size(self):
         """Returns the number of bytes up to the end of the last complete record."""
-        return self.ends[-1] if self.ends else 20 if self.form == 3 else 12
+        return self.ends[-1] if self.ends else 20 if self.form > 2 else 12
 
     def is_behind(self, other):
         """Whether this is an earlier segment of the other's log."""
@@ -54,8 +55,10 @@ class Log(NamedTuple):
 
 @lru_cache(4096)
 def read_log(name, content):
-    form, (start,) = content[3] - ord("0"), struct.unpack_from(">Q", content, 4)
-    writer, segment, at = (*struct.unpack_from(">II", content, 12), 20) if form == 3 else (name, 0, 12)
+    form = content[3] - ord("0")
+    content = opened(content).text if form == 4 else content
+    (start,) = struct.unpack_from(">Q", content, 4)
+    writer, segment, at = (*struct.unpack_from(">II", content, 12), 20) if form > 2 else (name, 0, 12)
     log = Log(form, start, writer, segment, [], [], [])
     while at + 4 <= len(content):
         (length,) = struct.unpack_from(">I", content, at)
@@ -70,7 +73,9 @@ def read_log(name, content):
 
 
 def whole_records(name, content):
-    """Returns a log without its torn tail, and any other file as it is."""
+    """Returns a log without its torn tail or end, and any other file as it is."""
+    if name.endswith(".mtl") and content.startswith(LOG):
+        return content[: [44, *opened(content).ends][-1]]
     return content[: read_log(name, content).size()] if name.endswith(".mtl") else content
 
 
@@ -162,14 +167,19 @@ class File:
         self.content, self.synced = content, len(content)
 
     def left(self, name, rng):
-        """Returns what a crash leaves: of a log a beginning, of another file any zeros among what is not synced."""
+        """Returns what a crash leaves: of a log a beginning, of another file any zeros among what is not synced. A log of format 4
+        has both, and anything behind a write that was under way."""
         whole = len(self.content)
         left = self.content[: rng.choice([self.synced, rng.randint(self.synced, whole), whole])]
-        if name.endswith(".mtl"):
+        is_sealed = self.content.startswith(LOG)
+        if name.endswith(".mtl") and not is_sealed:
             return left
         begin = rng.randint(self.synced, len(left))
         end = min(begin + rng.choice([1, 1, 4096]), len(left))
-        return left[:begin] + bytes(end - begin) + left[end:]
+        left = left[:begin] + bytes(end - begin) + left[end:]
+        if is_sealed and self.synced < whole:
+            left += rng.choice([b"", bytes(rng.randint(1, 60)), rng.randbytes(rng.randint(1, 60))])
+        return left
 
 
 class Disk:
