@@ -18,9 +18,8 @@ KEYS = 20
 
 
 class Line(NamedTuple):
-    """A line that the server told, and the number of its calls before it that changed the folder."""
+    """A line that the server told, or that a client sent."""
 
-    calls: int
     what: str
     key: str
     version: int
@@ -29,7 +28,7 @@ class Line(NamedTuple):
 
 def sent(key, value):
     """Returns the line of an update that a client asked for. Its version is not known."""
-    return Line(0, "sent", key, GREATEST, value)
+    return Line("sent", key, GREATEST, value)
 
 
 class Client:
@@ -120,10 +119,9 @@ def waiting(clients, lines):
     return [client.waits for client in clients if client.waits and client.waits.value not in made]
 
 
-def read_lines(calls, text):
-    for what, *words in filter(None, map(str.split, text.splitlines())):
-        if what in ("has", "put", "ack"):
-            yield Line(calls, what, words[0], int(words[1]) if what != "has" else 0, words[-1])
+def read_lines(lines):
+    """Returns the updates that a server told of, and those that it acknowledged."""
+    return [Line(what, words[0], int(words[1]), words[-1]) for what, *words in map(str.split, lines) if what in ("put", "ack")]
 
 
 def store_of(folder):
