@@ -526,11 +526,13 @@ static bool recover(const mtr_host *host, struct found *found, mtr_place *store,
     return is_done(status, "recovery") && is_done(mtr_get_report(store, report), "recovery");
 }
 
-/* Adds a worker's log with this newest file. */
+/* Adds a worker's log with this newest file, or closes it. */
 static bool add_log(mtr_host *host, size_t number, int file, uint64_t size) {
     struct log *logs = realloc(host->logs, (host->count + 1) * sizeof *logs);
-    if (!did(logs != NULL, "a log"))
+    if (!did(logs != NULL, "a log")) {
+        close(file);
         return false;
+    }
     host->logs = logs;
     memset(&logs[host->count], 0, sizeof *logs);
     logs[host->count] = (struct log){.host = host, .number = number, .file = file, .size = size, .covered = host->last};

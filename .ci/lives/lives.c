@@ -152,6 +152,7 @@ static void start(void) {
     requests = 1 + (unsigned)any_below(UINT64_C(1) << any_below(8));
     bool is_open = host_open(logs, segment, checkpoint, &last);
     must(is_open || machine->failures > 0, "the folder does not open");
+    must(is_open || open_files() == 0, "%u files stay open after a refusal", open_files());
     if (!is_open)
         return;
     check(last);
