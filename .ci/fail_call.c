@@ -70,9 +70,6 @@ int open(const char *path, int flags, ...)
     return fails("open") ? -1 : NEXT(int (*)(const char *, int, ...), "open")(path, flags, mode);
 }
 
-/* The name by which programs in Rust call it. */
-int open64(const char *path, int flags, ...) __attribute__((alias("open")));
-
 int openat(int folder, const char *path, int flags, ...)
 {
     va_list args;
@@ -131,29 +128,14 @@ int fsync(int file)
     return fails("sync") ? -1 : NEXT(int (*)(int), "fsync")(file);
 }
 
-int fdatasync(int file)
-{
-    return fails("sync") ? -1 : NEXT(int (*)(int), "fdatasync")(file);
-}
-
 int rename(const char *from, const char *to)
 {
     return fails("rename") ? -1 : NEXT(int (*)(const char *, const char *), "rename")(from, to);
 }
 
-int renameat(int old, const char *from, int new, const char *to)
-{
-    return fails("rename") ? -1 : NEXT(int (*)(int, const char *, int, const char *), "renameat")(old, from, new, to);
-}
-
 int unlink(const char *path)
 {
     return fails("delete") ? -1 : NEXT(int (*)(const char *), "unlink")(path);
-}
-
-int unlinkat(int folder, const char *path, int flags)
-{
-    return fails("delete") ? -1 : NEXT(int (*)(int, const char *, int), "unlinkat")(folder, path, flags);
 }
 
 int mkdir(const char *path, mode_t mode)

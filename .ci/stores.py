@@ -287,8 +287,6 @@ def told_call(line, folder, paths):
     call, *words = line.split(" ")
     if call in ("open", "create"):
         paths[words[0]] = words[1]
-    if call == "close":
-        paths.pop(words[0], None)
     path = Path(paths.get(words[0], words[0]))
     if call == "create":
         return call, Path(words[1]).name

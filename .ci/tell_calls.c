@@ -7,7 +7,6 @@
 #include <stdio.h>
 #include <stdlib.h>
 #include <string.h>
-#include <sys/mman.h>
 #include <sys/stat.h>
 #include <sys/syscall.h>
 #include <unistd.h>
@@ -65,71 +64,36 @@ int openat(int folder, const char *path, int flags, ...)
 ssize_t write(int file, const void *bytes, size_t size)
 {
     ssize_t count = NEXT(ssize_t (*)(int, const void *, size_t), "write")(file, bytes, size);
-    char *line = mmap(NULL, 2 * size + 32, PROT_READ | PROT_WRITE, MAP_PRIVATE | MAP_ANONYMOUS, -1, 0);
+    char *line = malloc(2 * size + 32);
     int length = sprintf(line, "write %d ", file);
     for (ssize_t at = 0; at < count; at++)
         length += sprintf(line + length, "%02x", ((const unsigned char *)bytes)[at]);
     line[length++] = '\n';
     tell(line, length);
-    munmap(line, 2 * size + 32);
+    free(line);
     return count;
 }
 
-/* It is told before another file can have the number. */
-int close(int file)
+int fsync(int file)
 {
-    tell_words("close %d\n", file);
-    return NEXT(int (*)(int), "close")(file);
-}
-
-static int synced(int file, const char *name)
-{
-    int failed = NEXT(int (*)(int), name)(file);
+    int failed = NEXT(int (*)(int), "fsync")(file);
     if (!failed)
         tell_words("sync %d\n", file);
     return failed;
 }
 
-int fsync(int file)
+int rename(const char *from, const char *to)
 {
-    return synced(file, "fsync");
-}
-
-int fdatasync(int file)
-{
-    return synced(file, "fdatasync");
-}
-
-static int renamed(int failed, const char *from, const char *to)
-{
+    int failed = NEXT(int (*)(const char *, const char *), "rename")(from, to);
     if (!failed)
         tell_words("rename %s %s\n", from, to);
     return failed;
 }
 
-int rename(const char *from, const char *to)
+int unlink(const char *path)
 {
-    return renamed(NEXT(int (*)(const char *, const char *), "rename")(from, to), from, to);
-}
-
-int renameat(int old, const char *from, int new, const char *to)
-{
-    return renamed(NEXT(int (*)(int, const char *, int, const char *), "renameat")(old, from, new, to), from, to);
-}
-
-static int deleted(int failed, const char *path)
-{
+    int failed = NEXT(int (*)(const char *), "unlink")(path);
     if (!failed)
         tell_words("delete %s\n", path);
     return failed;
-}
-
-int unlink(const char *path)
-{
-    return deleted(NEXT(int (*)(const char *), "unlink")(path), path);
-}
-
-int unlinkat(int folder, const char *path, int flags)
-{
-    return deleted(NEXT(int (*)(int, const char *, int), "unlinkat")(folder, path, flags), path);
 }
