@@ -534,7 +534,6 @@ static bool add_log(mtr_host *host, size_t number, int file, uint64_t size) {
         return false;
     }
     host->logs = logs;
-    memset(&logs[host->count], 0, sizeof *logs);
     logs[host->count] = (struct log){.host = host, .number = number, .file = file, .size = size, .covered = host->last};
     host->count++;
     return true;
