@@ -116,12 +116,25 @@ fn looked_up(zeros: usize, byte: u8) -> u32
 mod tests {
     use super::{crc32c, crc32c_append};
 
+    const RISING: &[u8] = b"\x00\x01\x02\x03\x04\x05\x06\x07\x08\x09\x0a\x0b\x0c\x0d\x0e\x0f\
+        \x10\x11\x12\x13\x14\x15\x16\x17\x18\x19\x1a\x1b\x1c\x1d\x1e\x1f";
+
+    const FALLING: &[u8] = b"\x1f\x1e\x1d\x1c\x1b\x1a\x19\x18\x17\x16\x15\x14\x13\x12\x11\x10\
+        \x0f\x0e\x0d\x0c\x0b\x0a\x09\x08\x07\x06\x05\x04\x03\x02\x01\x00";
+    // An iSCSI command that reads.
+    const READ: &[u8] = b"\x01\xc0\x00\x00\x00\x00\x00\x00\x00\x00\x00\x00\x00\x00\x00\x00\
+        \x14\x00\x00\x00\x00\x00\x04\x00\x00\x00\x00\x14\x00\x00\x00\x18\
+        \x28\x00\x00\x00\x00\x00\x00\x00\x02\x00\x00\x00\x00\x00\x00\x00";
+
     // RFC 3720, B.4, and the check value of CRC-32C.
     #[test]
     fn known_checksums(rt: HostRuntime) {
         assert_eq!(&rt; crc32c(b"123456789"), 0xe306_9283);
         assert_eq!(&rt; crc32c(&[0; 32]), 0x8a91_36aa);
         assert_eq!(&rt; crc32c(&[0xff; 32]), 0x62a8_ab43);
+        assert_eq!(&rt; crc32c(RISING), 0x46dd_794e);
+        assert_eq!(&rt; crc32c(FALLING), 0x113f_db5c);
+        assert_eq!(&rt; crc32c(READ), 0xd996_3a56);
         assert_eq!(&rt; crc32c_append(crc32c(b"1234"), b"56789"), 0xe306_9283);
     }
 }
