@@ -12,7 +12,7 @@ rows : (n count : ℕ) → List (List ℕ)
 rows n zero = []
 rows n (suc count) = row n 256 0 ∷ rows (n + 8) count
 
-computed : TABLES ≡ rows 8 8
+computed : TABLES ≡ rows 8 16
 unfolding rows row shifts shifted
 computed = refl
 
@@ -28,9 +28,9 @@ at_rows n zero d j within = absurd (omega arith)
 at_rows n (suc count) d zero within = let e : n ≡ 8 * 0 + n = omega arith in ap (λ m. row m 256 0) e
 at_rows n (suc count) d (suc j) within = at_rows (n + 8) count d j (omega arith) ∙ (let e : 8 * j + (n + 8) ≡ 8 * suc j + n = omega arith in ap (λ m. row m 256 0) e)
 
-pub entry : (d : List ℕ) (j b : ℕ) → j < 8 → b < 256 → get_or (get_or TABLES j d) b 0 ≡ shifts (8 * j + 8) b
+pub entry : (d : List ℕ) (j b : ℕ) → j < 16 → b < 256 → get_or (get_or TABLES j d) b 0 ≡ shifts (8 * j + 8) b
 entry d j b in_rows in_row =
     ap (λ tables. get_or (get_or tables j d) b 0) computed
-    ∙ ap (λ bytes. get_or bytes b 0) (at_rows 8 8 d j in_rows)
+    ∙ ap (λ bytes. get_or bytes b 0) (at_rows 8 16 d j in_rows)
     ∙ at_row (8 * j + 8) 256 0 b in_row
     ∙ (let e : 0 + b ≡ b = omega arith in ap (shifts (8 * j + 8)) e)

@@ -22,7 +22,7 @@
 mod laws;
 mod tables;
 
-ghost use Rattle.std.specs.Prelude.{◌≡◌, ◌+◌, ◌*◌, ◌<◌, bit_xor};
+ghost use Rattle.std.specs.Prelude.{◌≡◌, ◌+◌, ◌*◌, ◌<◌, ◌≤◌, ◌++◌, bit_xor};
 ghost use Rattle.mt_crc.specs.Crc.{shifts, remainder, crc32c, crc32c_append};
 
 use crate::tables::TABLES;
@@ -51,8 +51,11 @@ fn remainder(before: u32, bytes: &[u8]) -> u32
 {
     let mut state = before;
     let mut rest = bytes;
-    'eights: while let Some((eight, more)) = rest.split_first_chunk::<8>() {
-        state = after_eight(state, eight);
+    'pairs: while let Some((first, behind)) = rest.split_first_chunk::<8>() {
+        let Some((second, more)) = behind.split_first_chunk::<8>() else {
+            break 'pairs;
+        };
+        state = after_pair(state, first, second);
         rest = more;
     }
     after_each(state, rest)
@@ -79,34 +82,36 @@ fn after_byte(state: u32, byte: u8) -> u32
     (sum >> 8) ^ looked_up(0, low)
 }
 
-/// Returns the remainder after eight bytes.
+/// Returns the remainder after two times eight bytes.
 #[inline(always)]
-fn after_eight(state: u32, eight: &[u8; 8]) -> u32
-    ensures { result ≡ remainder state eight.now }
+fn after_pair(state: u32, first: &[u8; 8], second: &[u8; 8]) -> u32
+    ensures { result ≡ remainder state (first.now ++ second.now) }
 {
-    shifted_out(u64::from(state) ^ u64::from_le_bytes(*eight))
+    let first = u64::from(state) ^ u64::from_le_bytes(*first);
+    shifted_out(8, first) ^ shifted_out(0, u64::from_le_bytes(*second))
 }
 
-/// Returns the remainder of a number after 64 shifts: the exclusive or of those of its bytes.
+/// Returns the remainder of a number before `zeros` bytes that are 0: the exclusive or of those of its bytes.
 #[inline(always)]
-fn shifted_out(word: u64) -> u32
-    ensures { result ≡ shifts 64 word }
+fn shifted_out(zeros: usize, word: u64) -> u32
+    requires { zeros ≤ 8 }
+    ensures { result ≡ shifts (8 * zeros + 64) word }
 {
     let [a, b, c, d, e, f, g, h] = word.to_le_bytes();
-    looked_up(0, h)
-        ^ looked_up(1, g)
-        ^ looked_up(2, f)
-        ^ looked_up(3, e)
-        ^ looked_up(4, d)
-        ^ looked_up(5, c)
-        ^ looked_up(6, b)
-        ^ looked_up(7, a)
+    looked_up(zeros, h)
+        ^ looked_up(zeros + 1, g)
+        ^ looked_up(zeros + 2, f)
+        ^ looked_up(zeros + 3, e)
+        ^ looked_up(zeros + 4, d)
+        ^ looked_up(zeros + 5, c)
+        ^ looked_up(zeros + 6, b)
+        ^ looked_up(zeros + 7, a)
 }
 
 /// Returns the remainder of the byte before `zeros` bytes that are 0.
 #[inline(always)]
 fn looked_up(zeros: usize, byte: u8) -> u32
-    requires { zeros < 8 }
+    requires { zeros < 16 }
     ensures { result ≡ shifts (8 * zeros + 8) byte }
 {
     TABLES[zeros][byte as usize]
