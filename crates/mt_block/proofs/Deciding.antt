@@ -3,7 +3,7 @@ use Rattle.std.proofs.Common.{◌≡◌, ◌≢◌, ℕ, zero, suc, ◌+◌, ◌
 use Rattle.std.specs.List.{All}
 use Rattle.std.proofs.lemmas.Bool.{cases_lt, cases_eq}
 use Rattle.std.proofs.lemmas.List.{take-append-drop}
-use Rattle.std.proofs.lemmas.List.Elements.{All-cons, All-nil}
+use Rattle.std.proofs.lemmas.List.Elements.{All-cons, All-nil, All-head, All-tail}
 use Rattle.std.proofs.Math.Seq.{take-append_seam}
 use Rattle.byteorder.specs.Endian.{big_bytes, big_from}
 use Rattle.mt_crc.specs.Crc.{crc32c_append, crc_bytes, AreBytes}
@@ -11,8 +11,8 @@ use Rattle.mt_block.proofs.Splits.{bytes_left, bytes_right}
 use Rattle.mt_block.specs.declared.block.TheConstants.{MOST_BODY}
 use Rattle.mt_block.specs.declared.header.Header.{Header}
 use Rattle.mt_block.specs.Blocks.{IsHeader, header_bytes, mark_of, head_bytes, head_crc, body_bytes, block, IsBody, HasHead, HasNoHead, HasSomeHead, IsNext, IsBroken, IsTornEnd, IsDamage, blocks, IsFile, IsDamaged}
-use Rattle.mt_block.proofs.Heads.{small, head-length, block_apart, body_apart, block-length}
-use Rattle.mt_block.proofs.Places.{head_parts}
+use Rattle.mt_block.proofs.Heads.{small, same_split, same_heads, head-length, block_apart, body_apart, block-length}
+use Rattle.mt_block.proofs.Places.{head_of, head_parts, next_not_cut, next_not_broken}
 use Rattle.mt_block.proofs.Files.{IsCutAt, cut_at, flat}
 
 same_bytes : (xs ys : List ℕ) → (xs ≡ ys) ⊎ (xs ≢ ys)
@@ -175,3 +175,101 @@ some_of bytes header rest are is e = by (read (mark_of header) (suc (length rest
         with : ((r.rest ≡ []) ⊎ IsTornEnd (mark_of header) r.rest) ⊎ IsDamage (mark_of header) r.rest → ((bodies : List (List ℕ)) × (end : List ℕ) × IsFile bytes header bodies end) ⊎ ((bodies : List (List ℕ)) × IsDamaged bytes header bodies)
         with (inl ends) = inl (r.bodies, r.rest, record { begins = record { spelled = begins; is_header = is; are_bodies = r.are }; ends = ends })
         with (inr damage) = inr (r.bodies, record { rest = r.rest; begins = record { spelled = begins; is_header = is; are_bodies = r.are }; damage = damage })
+
+-- ---- as many blocks as there are
+
+are_bytes_or_not : (xs : List ℕ) → AreBytes xs ⊎ (AreBytes xs → ⊥)
+are_bytes_or_not [] = inl (All-nil (λ b. b < 2 ^ 8))
+are_bytes_or_not (x ∷ xs) = by (cases_lt x (2 ^ 8)) (are_bytes_or_not xs)
+  where
+    by : (x < 2 ^ 8) ⊎ (2 ^ 8 ≤ x) → AreBytes xs ⊎ (AreBytes xs → ⊥) → AreBytes (x ∷ xs) ⊎ (AreBytes (x ∷ xs) → ⊥)
+    by (inl small) (inl are) = inl (All-cons (λ b. b < 2 ^ 8) x xs small are)
+    by (inl small) (inr not) = inr (λ all. not (All-tail (λ b. b < 2 ^ 8) x xs all))
+    by (inr large) rest = inr (λ all. let small : x < 2 ^ 8 = All-head (λ b. b < 2 ^ 8) x xs all in omega arith)
+
+-- a block whose body has this head has this body
+body_there : (mark : ℕ) (bytes body after : List ℕ) (h : HasHead mark bytes) (c : IsCutAt h.number h.after) → IsNext mark bytes body after → body ≡ c.front
+body_there mark bytes body after h c next =
+    let o = same_heads mark (length body) h.number (body_bytes mark body ++ after) h.after next.is_body.1 h.fits (sym (next.spelled ∙ block_apart mark body after) ∙ h.spelled) in
+    (same_split body c.front (crc_bytes (crc32c_append (head_crc mark (length body)) body) ++ after) c.back (o.0 ∙ sym c.size) (sym (body_apart mark body after) ∙ o.1 ∙ c.spelled)).0
+
+next_or_none : (mark : ℕ) (bytes : List ℕ) → Next mark bytes ⊎ ((body after : List ℕ) → IsNext mark bytes body after → ⊥)
+unfolding Next
+next_or_none mark bytes = by (head_or_none mark bytes)
+  where
+    Found : Type 0
+    Found = Next mark bytes ⊎ ((body after : List ℕ) → IsNext mark bytes body after → ⊥)
+
+    with_body : (h : HasHead mark bytes) (c : IsCutAt h.number h.after) (d : IsCutAt 4 c.back) → d.front ≡ crc_bytes (crc32c_append (head_crc mark h.number) c.front) → AreBytes c.front ⊎ (AreBytes c.front → ⊥) → Found
+    with_body h c d same (inr not) = inr (λ body after next. not (subst AreBytes (body_there mark bytes body after h c next) next.is_body.0))
+    with_body h c d same (inl are) =
+        let check : d.front ≡ crc_bytes (crc32c_append (head_crc mark (length c.front)) c.front) = same ∙ ap (λ (n : ℕ). crc_bytes (crc32c_append (head_crc mark n) c.front)) (sym c.size) in
+        let whole : h.after ≡ body_bytes mark c.front ++ d.back = c.spelled ∙ ap (λ (l : List ℕ). c.front ++ l) (d.spelled ∙ ap (λ (l : List ℕ). l ++ d.back) check) ∙ sym (body_apart mark c.front d.back) in
+        inl (
+          c.front,
+          d.back,
+          record { spelled = h.spelled ∙ (λ i. head_bytes mark (sym c.size i) ++ whole i) ∙ sym (block_apart mark c.front d.back); is_body = (are, subst (λ (n : ℕ). n ≤ MOST_BODY) (sym c.size) h.fits) },
+        )
+
+    with_check : (h : HasHead mark bytes) (c : IsCutAt h.number h.after) (d : IsCutAt 4 c.back) → (d.front ≡ crc_bytes (crc32c_append (head_crc mark h.number) c.front)) ⊎ (d.front ≢ crc_bytes (crc32c_append (head_crc mark h.number) c.front)) → Found
+    with_check h c d (inl same) = with_body h c d same (are_bytes_or_not c.front)
+    with_check h c d (inr wrong) = inr (λ body after next. next_not_broken mark bytes body after d.back next (inr (record {
+      head = h;
+      body = c.front;
+      check = d.front;
+      spelled = c.spelled ∙ ap (λ (l : List ℕ). c.front ++ l) d.spelled;
+      size = c.size;
+      four = d.size;
+      wrong = wrong;
+    })))
+
+    with_head : (h : HasHead mark bytes) → (length h.after < h.number + 4) ⊎ (h.number + 4 ≤ length h.after) → Found
+    with_head h (inl short) = inr (λ body after next. next_not_cut mark bytes body after next (inr (inr (record { head = h; short = short }))))
+    with_head h (inr room) = cut (cut_at h.number h.after (omega arith))
+      where
+        cut : IsCutAt h.number h.after → Found
+        cut c =
+            let e : length h.after ≡ length c.front + length c.back = ap length c.spelled ∙ length-append c.front c.back in
+            let s : length c.front ≡ h.number = c.size in
+            checked (cut_at 4 c.back (omega arith))
+          where
+            checked : IsCutAt 4 c.back → Found
+            checked d = with_check h c d (same_bytes d.front (crc_bytes (crc32c_append (head_crc mark h.number) c.front)))
+
+    by : HasHead mark bytes ⊎ (HasHead mark bytes → ⊥) → Found
+    by (inl h) = with_head h (cases_lt (length h.after) (h.number + 4))
+    by (inr none) = inr (λ body after next. none (head_of mark bytes body after next))
+
+-- the bytes are blocks, and a rest at which no block stands
+pub record AreAll (mark : ℕ) (bytes : List ℕ) : Type 0 where
+  pub bodies : List (List ℕ)
+  pub rest : List ℕ
+  pub spelled : bytes ≡ blocks mark bodies ++ rest
+  pub are : All IsBody bodies
+  pub none : (body after : List ℕ) → IsNext mark rest body after → ⊥
+
+all_below : (mark n : ℕ) (bytes : List ℕ) → length bytes < n → AreAll mark bytes
+unfolding Next
+all_below mark zero bytes fewer = absurd (omega arith)
+all_below mark (suc n) bytes fewer = by (next_or_none mark bytes) (λ after less. all_below mark n after less)
+  where
+    by : Next mark bytes ⊎ ((body after : List ℕ) → IsNext mark bytes body after → ⊥) → ((after : List ℕ) → length after < n → AreAll mark after) → AreAll mark bytes
+    by (inr none) others = record { bodies = []; rest = bytes; spelled = refl; are = All-nil IsBody; none = none }
+    by (inl next) others =
+        let body : List ℕ = next.0 in
+        let after : List ℕ = next.1 in
+        let e : bytes ≡ block mark body ++ after = next.2.spelled in
+        let size : length bytes ≡ length (block mark body) + length after = ap length e ∙ length-append (block mark body) after in
+        let long : length (block mark body) ≡ length body + 16 = block-length mark body in
+        let r = others after (omega arith) in
+        record {
+          bodies = body ∷ r.bodies;
+          rest = r.rest;
+          spelled = e ∙ ap (λ (l : List ℕ). block mark body ++ l) r.spelled ∙ sym (flat mark body r.bodies r.rest);
+          are = All-cons IsBody body r.bodies next.2.is_body r.are;
+          none = r.none;
+        }
+
+-- any bytes are blocks, as many as there are, and a rest
+pub all_blocks : (mark : ℕ) (bytes : List ℕ) → AreAll mark bytes
+all_blocks mark bytes = all_below mark (suc (length bytes)) bytes (omega arith)

@@ -235,7 +235,7 @@ lost_few mark b bs tail rest is are end burst =
 
 -- ---- all blocks, and the header
 
-same_few : (mark : ℕ) (bodies others : List (List ℕ)) (end rest : List ℕ) → All IsBody bodies → All IsBody others → (end ≡ []) ⊎ IsTornEnd mark end → (rest ≡ []) ⊎ IsTornEnd mark rest
+pub same_few : (mark : ℕ) (bodies others : List (List ℕ)) (end rest : List ℕ) → All IsBody bodies → All IsBody others → (end ≡ []) ⊎ IsTornEnd mark end → (rest ≡ []) ⊎ IsTornEnd mark rest
     → IsBurst (blocks mark bodies ++ end) (blocks mark others ++ rest) → LosesFew bodies others ⊎ LosesFew others bodies
 same_few mark [] [] end rest are others ends other_ends burst = inl ([], refl, omega arith)
 same_few mark (b ∷ bs) [] end rest are others ends other_ends burst =

@@ -15,14 +15,14 @@ byte_low : (k n : ℕ) → byte_at k n < 2 ^ 8
 byte_low zero n = omega arith
 byte_low (suc k) n = let p : n / 256 ^ suc k % 256 < 256 = omega arith in p
 
-are_big : (k n : ℕ) → AreBytes (big_bytes k n)
+pub are_big : (k n : ℕ) → AreBytes (big_bytes k n)
 are_big zero n = All-nil (λ b. b < 2 ^ 8)
 are_big (suc k) n = All-cons (λ b. b < 2 ^ 8) (byte_at k n) (big_bytes k n) (byte_low k n) (are_big k n)
 
-both : (xs ys : List ℕ) → AreBytes xs → AreBytes ys → AreBytes (xs ++ ys)
+pub both : (xs ys : List ℕ) → AreBytes xs → AreBytes ys → AreBytes (xs ++ ys)
 both xs ys = All-append (λ b. b < 2 ^ 8) xs ys
 
-same_number : (n a b : ℕ) (x y : List ℕ) → a < 256 ^ n → b < 256 ^ n → big_bytes n a ++ x ≡ big_bytes n b ++ y → (a ≡ b) × (x ≡ y)
+pub same_number : (n a b : ℕ) (x y : List ℕ) → a < 256 ^ n → b < 256 ^ n → big_bytes n a ++ x ≡ big_bytes n b ++ y → (a ≡ b) × (x ≡ y)
 same_number n a b x y fits_a fits_b e = (
   sym (big_number-reads_back n a x fits_a) ∙ ap (big_from 0 n) e ∙ big_number-reads_back n b y fits_b,
   (same_split (big_bytes n a) (big_bytes n b) x y (length-bytes_high_first n a ∙ sym (length-bytes_high_first n b)) e).1,

@@ -2,8 +2,11 @@ pub mod Heads
 pub mod Splits
 pub mod Places
 pub mod Headers
+pub mod PartHeaders
 pub mod Files
 pub mod Errors
 pub mod Deciding
 pub mod Older
 pub mod Zeros
+pub mod Seals
+pub mod PartErrors

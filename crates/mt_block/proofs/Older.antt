@@ -1,11 +1,13 @@
--- A burst makes no file of an older format: it leaves the magic, or the places where the older formats have their first length.
+-- A burst makes no log or part of an older format: it leaves the magic, or the places where the older formats have their first length.
 use Rattle.std.proofs.Common.{◌≡◌, ℕ, suc, ◌+◌, ◌-◌, ◌≤◌, ◌⊎◌, List, [], ◌∷◌, ◌++◌, length, take, codes, sym, ap, subst, ◌∙◌, arith, inl, inr, length-append}
 use Rattle.std.specs.Prelude.{slice_index}
 use Rattle.std.proofs.Math.Seq.{take-append_seam}
 use Rattle.byteorder.specs.Endian.{big_from}
 use Rattle.mt_crc.specs.Crc.{IsBurst}
 use Rattle.mt_block.specs.declared.header.Header.{Header}
+use Rattle.mt_block.specs.declared.part_header.PartHeader.{PartHeader}
 use Rattle.mt_block.specs.Blocks.{header_bytes}
+use Rattle.mt_block.specs.Parts.{part_header_bytes}
 use Rattle.mt_block.proofs.Splits.{burst_splits, burst_far}
 use Rattle.mt_block.proofs.Files.{IsCutAt, cut_at}
 
@@ -79,4 +81,16 @@ no_older bytes other header more e burst =
         same_places (header_bytes header ++ more) other 12 (omega arith) far ∙ zeros.0,
         same_places (header_bytes header ++ more) other 20 (omega arith) far ∙ zeros.1,
       )
+    ]
+
+one_there : (header : PartHeader) (more : List ℕ) → big_from 20 4 (part_header_bytes header ++ more) ≡ 1
+one_there header more = omega arith
+
+pub no_older_part : (bytes other : List ℕ) (header : PartHeader) (more : List ℕ) → bytes ≡ part_header_bytes header ++ more → IsBurst bytes other
+    → (take 4 other ≡ codes "MTC4") ⊎ (big_from 20 4 other ≡ 1)
+no_older_part bytes other header more e burst =
+    let long : 8 ≤ length (part_header_bytes header ++ more) = omega arith in
+    elim (magic_or_far (part_header_bytes header ++ more) other long (subst (λ (l : List ℕ). IsBurst l other) e burst)) [
+      | inl same ↦ inl same
+      | inr far ↦ inr (same_places (part_header_bytes header ++ more) other 20 (omega arith) far ∙ one_there header more)
     ]

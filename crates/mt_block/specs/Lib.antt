@@ -1,2 +1,4 @@
 pub mod Blocks
+pub mod Sealing
 pub mod Adding
+pub mod Parts

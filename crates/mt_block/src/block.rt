@@ -122,7 +122,7 @@ pub fn after<'a>(front: &[u8], bytes: &'a [u8]) -> Option<&'a [u8]>
 }
 
 /// Returns the first bytes, and those after them. Returns None if there are fewer.
-fn split(bytes: &[u8], at: usize) -> Option<(&[u8], &[u8])>
+pub fn split(bytes: &[u8], at: usize) -> Option<(&[u8], &[u8])>
     ensures found { IfSome result (λ x. (bytes.now ≡ x.0.now ++ x.1.now) × (length x.0.now ≡ at)) }
     ensures none { IfNone result (length bytes.now < at) }
 {

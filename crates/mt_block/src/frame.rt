@@ -1,7 +1,7 @@
 //! Makes blocks.
 ghost use Rattle.std.specs.Prelude.{◌≡◌, ◌≤◌, ◌++◌, length, OnOk, OnErr};
 ghost use Rattle.mt_block.specs.Adding.{HasRoom, Adds};
-ghost use Rattle.mt_block.specs.Blocks.{block, head_bytes};
+ghost use Rattle.mt_block.specs.Blocks.{block, head_bytes, IsBody};
 
 use crate::block::{FRAME_BYTES, MOST_BODY, head_crc};
 use mt_crc::crc32c_append;
@@ -17,7 +17,8 @@ pub struct Frame {
 /// Returns the frame of a block with this body, in the file with this mark.
 pub fn frame_of(mark: u32, body: &[u8]) -> Frame
     requires { length body.now ≤ MOST_BODY }
-    ensures { result.head ++ (body.now ++ result.check) ≡ block mark body.now }
+    ensures block { result.head ++ (body.now ++ result.check) ≡ block mark body.now }
+    ensures body { IsBody body.now }
 {
     let number = body.len() as u32;
     let check = crc32c_append(head_crc(mark, number), body).to_le_bytes();
@@ -32,6 +33,7 @@ pub fn append_block(mark: u32, body: &[u8], out: &mut Vec<u8>) -> Result<(), All
     requires { length body.now ≤ MOST_BODY }
     ensures ok { OnOk result (out.new.items ≡ out.old.items ++ block mark body.now) }
     ensures err { OnErr result (out.new.items ≡ out.old.items) }
+    ensures body { IsBody body.now }
 {
     let frame = frame_of(mark, body);
     out.reserve(FRAME_BYTES + body.len())?;

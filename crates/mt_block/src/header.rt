@@ -84,7 +84,7 @@ pub fn header_at(bytes: &[u8]) -> Option<(Header, &[u8])>
 }
 
 /// Reads a number of eight bytes. Returns None if there are fewer.
-fn u64_at(bytes: &[u8]) -> Option<(u64, &[u8])>
+pub fn u64_at(bytes: &[u8]) -> Option<(u64, &[u8])>
     ensures found { IfSome result (λ x. (x.0 < 2 ^ 64) × (bytes.now ≡ big_bytes 8 x.0 ++ x.1.now)) }
     ensures none { IfNone result (length bytes.now < 8) }
 {

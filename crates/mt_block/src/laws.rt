@@ -3,6 +3,8 @@ ghost use Rattle.std.specs.Prelude.{◌≡◌, ◌≢◌, ◌<◌, ◌⊎◌, �
 ghost use Rattle.byteorder.specs.Endian.{big_from};
 ghost use Rattle.mt_crc.specs.Crc.{AreBytes, IsBurst};
 ghost use Rattle.mt_block.specs.declared.header.Header.{Header};
+ghost use Rattle.mt_block.specs.declared.part_header.PartHeader.{PartHeader};
+ghost use Rattle.mt_block.specs.Parts.{part_header_bytes, BeginsPart};
 ghost use Rattle.mt_block.specs.Blocks.{IsHeader, IsBody, IsFile, IsDamaged, Begins, LosesFew, HasNoHead, header_bytes, mark_of, block, blocks};
 
 /// States that bytes are a file in at most one way, or damaged in at most one way, never both. This is a law: it has nothing to
@@ -46,4 +48,13 @@ pub fn a_changed_bit_is_seen()
 pub fn damage_makes_no_older_log()
     ensures { (bytes other : List ℕ) (header : Header) (more : List ℕ) → bytes ≡ header_bytes header ++ more → IsBurst bytes other →
         (take 4 other ≡ codes "MTL4") ⊎ ((big_from 12 4 other ≡ 0) × (big_from 20 4 other ≡ 0)) }
+{}
+
+/// States that a burst of errors makes no other part of a part, and none of an older format: the magic is the same, or the first
+/// length is 1. This is a law: it has nothing to run.
+pub fn a_changed_part_is_seen()
+    ensures blocks { (bytes other : List ℕ) (header new : PartHeader) (bodies others : List (List ℕ)) →
+        BeginsPart bytes header bodies [] → BeginsPart other new others [] → IsBurst bytes other → ⊥ }
+    ensures older { (bytes other : List ℕ) (header : PartHeader) (more : List ℕ) → bytes ≡ part_header_bytes header ++ more → IsBurst bytes other →
+        (take 4 other ≡ codes "MTC4") ⊎ (big_from 20 4 other ≡ 1) }
 {}

@@ -8,6 +8,11 @@
 //! ```
 //!
 //! Numbers are big-endian, checksums little-endian. The mark is the header's checksum. A block is what one write appends.
+//! A part of a checkpoint is a header and blocks, with no end:
+//!
+//! ```text
+//! header  "MTC4" | salt, 8 bytes | number, 4 | part, 2 | parts, 2 | 1, 4 | begin, 8 | checksum, 4
+//! ```
 //!
 //! A crash leaves anything at the end: the beginning of a block, zeros, bytes of other files. So the log ends where no whole
 //! block stands, unless a head stands further on: then this is damage. A head of this file stands nowhere by chance.
@@ -19,6 +24,8 @@ mod block;
 mod frame;
 mod header;
 mod laws;
+mod part_header;
+mod seal;
 #[cfg(test)]
 mod tests;
 
@@ -26,5 +33,8 @@ pub use block::{FRAME_BYTES, MOST_BODY, block_wanted, find_head, has_some_head, 
 pub use frame::{Frame, append_block, frame_of};
 pub use header::{Header, header_at};
 pub use laws::{
-    a_changed_bit_is_seen, damage_makes_no_older_log, one_file, some_file, what_a_crash_leaves,
+    a_changed_bit_is_seen, a_changed_part_is_seen, damage_makes_no_older_log, one_file, some_file,
+    what_a_crash_leaves,
 };
+pub use part_header::{PartHeader, part_header_at};
+pub use seal::append_blocks;
