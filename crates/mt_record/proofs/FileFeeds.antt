@@ -1,18 +1,17 @@
 -- What the feed of a log was fed, whatever the kind of its file.
-use Rattle.std.proofs.lemmas.Option.{none-some, same_Some}
-use Rattle.std.proofs.Common.{◌≡◌, ◌≢◌, ◌⊎◌, inl, inr, ℕ, ◌+◌, ◌-◌, ◌^◌, ◌<◌, ◌≤◌, Bool, true, false, Option, Some, None, List, [], ◌∷◌, ◌++◌, length, take, drop, refl, sym, ap, ◌∙◌, subst, append_assoc, arith}
-use Rattle.std.specs.Prelude.{codes, MatchOption, MatchBool, IsTrue, Result, Ok, Err}
+use Rattle.std.proofs.lemmas.Option.{none-some}
+use Rattle.std.proofs.Common.{◌≡◌, ◌≢◌, ◌⊎◌, inl, inr, ℕ, ◌+◌, ◌-◌, ◌<◌, ◌≤◌, Bool, true, false, Option, Some, None, List, [], ◌∷◌, ◌++◌, length, refl, sym, ap, ◌∙◌, subst, append_assoc, arith}
+use Rattle.std.specs.Prelude.{codes, MatchOption, MatchBool, IsTrue, Result, Err}
 use Rattle.std.specs.Option.{ok_or}
-use Rattle.std.specs.List.{flat_map, All}
+use Rattle.std.specs.List.{flat_map}
 use Rattle.std.proofs.lemmas.Bool.{false≢true}
 use Rattle.std.proofs.lemmas.List.{length-append, append-nil}
-use Rattle.std.proofs.lemmas.List.Elements.{All-nil}
 use Rattle.mt_words.specs.declared.fault.What.{What}
 use Rattle.mt_words.specs.declared.fault.What.TheVariants.{Checksum}
 use Rattle.mt_words.specs.Limits.{limits_of}
 use Rattle.mt_words.specs.Changes.{Logged}
 use Rattle.mt_block.specs.declared.header.Header.{Header}
-use Rattle.mt_block.specs.Blocks.{IsHeader, header_bytes, mark_of, IsBody, IsCut, IsTornEnd, IsDamage, blocks, Begins, IsFile, IsDamaged}
+use Rattle.mt_block.specs.Blocks.{IsHeader, header_bytes, mark_of, IsTornEnd, IsDamage, blocks, Begins}
 use Rattle.mt_block.proofs.Heads.{same_split}
 use Rattle.mt_block.proofs.Files.{cut_at}
 use Rattle.mt_record.specs.declared.read.FeedFault.{FeedFault}
@@ -24,15 +23,14 @@ use Rattle.mt_record.specs.declared.front.LogFront.{LogFront}
 use Rattle.mt_record.specs.declared.front.Rest.{Rest}
 use Rattle.mt_record.specs.declared.front.Rest.TheVariants.{Nothing, Torn, Faulty}
 use Rattle.mt_record.specs.Spelling.{spelling}
-use Rattle.mt_record.specs.Fronts.{ShowsNone}
-use Rattle.mt_record.specs.Heads.{IsHead, head_bytes, HasNoHeader}
-use Rattle.mt_record.specs.Opening.{IsSealed, HasNoSeal, text_head, joined, text_of, is_torn, IsUnsealedSoFar, IsDamagedAfter, IsOwnText, Opens, OpensSoFar}
-use Rattle.mt_record.specs.Logs.{latest, IsTorn, IsLog, LogReading, IsReading, count_of, log_bytes}
+use Rattle.mt_record.specs.Heads.{IsHead, head_bytes}
+use Rattle.mt_record.specs.Opening.{IsSealed, HasNoSeal, text_head, joined, text_of, is_torn, IsDamagedAfter, Opens, OpensSoFar}
+use Rattle.mt_record.specs.Logs.{IsTorn, count_of}
 use Rattle.mt_record.specs.LogTexts.{front_of}
-use Rattle.mt_record.specs.LogFaults.{IsTextFault, HasTextFault, IsDamagedLog, IsLogFault}
-use Rattle.mt_record.specs.LogFronts.{IsEnd, IsTextFrontOf, IsFrontOf}
+use Rattle.mt_record.specs.LogFaults.{IsLogFault}
+use Rattle.mt_record.specs.LogFronts.{IsFrontOf}
 use Rattle.mt_record.specs.Feeding.{HasRead, HoldsAll, HasShown, IsFedBy}
-use Rattle.mt_record.specs.Unsealing.{Place, FileSoFar, IsPassed, HasPassed, HoldsBlocks, AreBlocksLeft, AreBlocksFaulty, IsUntold, ShowsNoSeal, IsPlain, IsFedUntold, IsFedBlocks, IsFedAs}
+use Rattle.mt_record.specs.Unsealing.{Place, FileSoFar, IsPassed, HasPassed, HoldsBlocks, AreBlocksLeft, AreBlocksFaulty, IsUntold, ShowsNoSeal, IsPlain, IsFedBlocks, IsFedAs}
 use Rattle.mt_record.specs.LogFeeding.{LogSoFar, ShowsFault, IsShown, IsHeaderShown, ShowsNoFault, IsReadTo, HoldsLog, IsLogLeft, IsLogFaulty, FedLog, count_read, damage_after, IsMemory, IsTextFed, IsLogFed, IsAllRead}
 use Rattle.mt_record.proofs.Beginnings.{head_long}
 use Rattle.mt_record.proofs.Feeds.{behind_on, fed_on}
@@ -40,7 +38,7 @@ use Rattle.mt_record.proofs.Records.{torn_some}
 use Rattle.mt_record.proofs.Opened.{head_not_sealed, header_sealed, header-length, begins_sealed, blocks_long, plain_front}
 use Rattle.mt_record.proofs.OneReading.{not_both}
 use Rattle.mt_record.proofs.Unsealing.{end_of, damage_of, broken_some}
-use Rattle.mt_record.proofs.LogFeeds.{begun, no_head_read, front_is, front_torn, front_faulty, ShowsInText, text_shows, text_shows_none, log_read, shown_in_text}
+use Rattle.mt_record.proofs.LogFeeds.{begun, no_head_read, front_is, front_faulty, ShowsInText, text_shows, text_shows_none, log_read}
 
 -- ---- kinds of files
 

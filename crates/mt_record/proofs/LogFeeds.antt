@@ -1,15 +1,12 @@
 -- The items of a log, one after the other, and what its feed was fed.
 use Rattle.std.proofs.lemmas.Option.{same_Some}
-use Rattle.std.proofs.Common.{◌≡◌, ◌≢◌, ◌↔◌, ◌⊎◌, inl, inr, ℕ, ◌+◌, ◌-◌, ◌^◌, ◌<◌, ◌≤◌, min, max, Option, Some, None, List, [], ◌∷◌, ◌++◌, length, take, drop, refl, sym, ap, ◌∙◌, subst, append_assoc, arith}
+use Rattle.std.proofs.Common.{◌≡◌, ◌≢◌, ℕ, ◌+◌, ◌-◌, ◌^◌, ◌<◌, ◌≤◌, min, max, Option, Some, None, List, [], ◌∷◌, ◌++◌, length, take, drop, refl, sym, ap, ◌∙◌, subst, append_assoc, arith}
 use Rattle.std.proofs.lemmas.List.{length-append, append-nil, flat_map_more, take-append-drop, take-take, drop-take}
 use Rattle.std.proofs.Math.Seq.{take-append_seam}
-use Rattle.std.specs.Prelude.{Bool, true, false, IsTrue, IfSome}
-use Rattle.std.proofs.lemmas.Bool.{false≢true}
+use Rattle.std.specs.Prelude.{Bool, true, false, IfSome}
 use Rattle.std.specs.List.{flat_map}
 use Rattle.mt_words.specs.declared.fault.What.{What}
-use Rattle.mt_words.specs.declared.fault.What.TheVariants.{Length, Trailer}
 use Rattle.mt_words.specs.declared.limits.Format.{Format}
-use Rattle.mt_words.specs.declared.limits.Limits.{Limits}
 use Rattle.mt_words.specs.declared.record.Change.{Change}
 use Rattle.mt_words.specs.Limits.{limits_of, widest, widest_format}
 use Rattle.mt_words.specs.Changes.{Logged, IsLoggedChange}
@@ -18,11 +15,11 @@ use Rattle.mt_record.specs.declared.read.FeedFault.{FeedFault}
 use Rattle.mt_record.specs.declared.read.FeedFault.TheVariants as faults
 use Rattle.mt_record.specs.declared.feed.log_items.LogItems.{LogItems}
 use Rattle.mt_record.specs.declared.feed.head.Head.{Head}
-use Rattle.mt_record.specs.Spelling.{framed, spelling, IsRecordLength}
+use Rattle.mt_record.specs.Spelling.{spelling}
 use Rattle.mt_record.specs.Fronts.{ShowsNone, IsUnfinishedFront}
 use Rattle.mt_record.specs.Heads.{IsHead, head_bytes, HasNoHeader}
 use Rattle.mt_record.specs.Encoding.{head_of}
-use Rattle.mt_record.specs.Logs.{latest, IsTorn, IsLog, LogReading, IsReading, count_of, log_bytes}
+use Rattle.mt_record.specs.Logs.{latest, IsLog, LogReading, IsReading, count_of, log_bytes}
 use Rattle.mt_record.specs.LogTexts.{version_of, versions_of, greatest, IsLast, front_of, tail_rest, front_in, IsTextIn}
 use Rattle.mt_record.specs.declared.front.LogFront.{LogFront}
 use Rattle.mt_record.specs.LogFaults.{RestFault, IsRecordFault, IsTextFault}
@@ -32,13 +29,12 @@ use Rattle.mt_record.specs.LogFronts.{IsTextRest, IsTextFrontOf, IsFrontOf}
 use Rattle.mt_record.specs.Steps.Bodies.{IsNextBody, IsBodyOf}
 use Rattle.mt_record.specs.Feeding.{HasRead, Reads, HoldsAll, HasShown}
 use Rattle.mt_record.specs.LogFeeding.{LogSoFar, log_so_far, IsReadTo, HoldsLog, IsLogLeft, IsLogFaulty}
-use Rattle.mt_record.proofs.Records.{records_push, latest_push, greatest_push, last_is, torn_some}
+use Rattle.mt_record.proofs.Records.{records_push, latest_push, greatest_push, last_is}
 use Rattle.mt_record.specs.Decoding.{decode}
 use Rattle.mt_record.proofs.Decodes.{body_says}
 use Rattle.mt_record.proofs.OneReading.{text_not_both, rest_fault_on}
 use Rattle.mt_record.proofs.Opened.{reading_of_front}
 use Rattle.mt_record.proofs.Beginnings.{cut_none, same_long, head_long, head_short}
-use Rattle.mt_record.proofs.Frames.{length_fault_on, frame_on}
 use Rattle.mt_record.proofs.Feeds.{behind_on, shows_none_on, front_read}
 
 -- ---- what was read
@@ -149,15 +145,6 @@ front_is taken s front text left rest some reads is =
       is_rest = subst (λ (n : ℕ). IsTextRest (limits_of front.head.format) n left rest) low is;
       numbers = λ i. record (read.numbers i) { rest = rest };
     }
-
--- if bytes are left, they are a torn tail
-pub front_torn : (taken : List Logged) (s : LogSoFar) (front : LogFront) (text left : List ℕ) → s.front ≡ Some front → HoldsAll (HoldsLog taken) IsLogLeft s left text → (left ≡ [] → ⊥)
-    → IsTextFrontOf text (taken ++ s.ready) (record front { rest = Torn })
-front_torn taken s front text left some (reads, rest) more = by (rw some at rest)
-  where
-    by : (left ≡ []) ⊎ IsTorn (limits_of front.head.format) left → IsTextFrontOf text (taken ++ s.ready) (record front { rest = Torn })
-    by (inl none) = absurd (more none)
-    by (inr torn) = front_is taken s front text left Torn some reads torn
 
 -- a file with this front is a log if no fault follows the records
 pub text_read : {R : Type 0} (listed : R → List Logged) (ready : R) (taken : List Logged) (bytes : List ℕ) (front : LogFront) → IsFrontOf bytes (taken ++ listed ready) front

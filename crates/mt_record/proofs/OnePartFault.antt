@@ -13,13 +13,13 @@ use Rattle.mt_record.specs.declared.part_text.PartHead.{PartHead}
 use Rattle.mt_record.specs.declared.part_text.PartFault.{PartFault}
 use Rattle.mt_record.specs.declared.part_text.PartFault.TheVariants as faults
 use Rattle.mt_record.specs.Spelling.{change_bytes}
-use Rattle.mt_record.specs.Parts.{part_head_bytes, IsPartHead, entry_spelling, footer_bytes, IsPart, PartReading, IsPartReading}
+use Rattle.mt_record.specs.Parts.{part_head_bytes, IsPartHead, entry_spelling, footer_bytes, IsPart, PartReading, IsPartTextReading}
 use Rattle.mt_record.specs.PartTexts.{IsEntryLength}
 use Rattle.mt_record.specs.LogFaults.{HasFrame}
-use Rattle.mt_record.specs.PartFaults.{HasNoPartHeader, HasNoEntry, BeginsPart, IsBroken, IsPartFault}
+use Rattle.mt_record.specs.PartFaults.{HasNoPartHeader, HasNoEntry, BeginsPart, IsBroken, IsPartTextFault}
 use Rattle.mt_record.specs.Fronts.{ShowsNone, IsUnfinishedFront}
 use Rattle.mt_record.specs.Feeding.{HasRead, HoldsAll, HasShown}
-use Rattle.mt_record.specs.PartFeeding.{HasWrongLength, HasWrongEntry, ShowsNoPart, ShowsPartFault, IsPartShown, ShowsNoPartFault, IsCutItem, PartSoFar, end_bytes, HoldsPart, IsPartLeft, IsPartFaulty}
+use Rattle.mt_record.specs.PartFeeding.{HasWrongLength, HasWrongEntry, ShowsNoPart, ShowsPartTextFault, IsPartTextShown, ShowsNoPartTextFault, IsCutItem, PartSoFar, end_bytes, HoldsPart, IsPartLeft, IsPartFaulty}
 use Rattle.mt_record.proofs.Unique.{framed_apart}
 use Rattle.mt_record.proofs.Entries.{entry_length, short_entry}
 use Rattle.mt_record.proofs.OnePart.{length_no_entry, footer_no_entry, same_beginning, part_begins}
@@ -74,7 +74,7 @@ module _ (format : Format) where
       omega (arith, enough, ap length same.1, short)
 
   -- so it does not begin with an entry
-  left_no_entry : (rest : List ℕ) → (rest ≡ []) ⊎ IsCutItem limits rest → HasNoEntry limits rest
+  pub left_no_entry : (rest : List ℕ) → (rest ≡ []) ⊎ IsCutItem limits rest → HasNoEntry limits rest
   left_no_entry rest left entry more is e = none_left rest left (frame_whole rest (entry_frame rest more entry is e))
 
   -- ---- what shows that there is no part
@@ -121,7 +121,7 @@ module _ (format : Format) where
   footer_shows_none count end rest fits_end fits e (inr (inr (inr h))) = let all = ap length (sym h.spelled ∙ e) in omega (arith, all)
 
 -- bytes that show that there is no part still do when more bytes follow
-no_part_on : (allowed : Limits) (count : ℕ) (rest more : List ℕ) → ShowsNoPart allowed count rest → ShowsNoPart allowed count (rest ++ more)
+pub no_part_on : (allowed : Limits) (count : ℕ) (rest more : List ℕ) → ShowsNoPart allowed count rest → ShowsNoPart allowed count (rest ++ more)
 no_part_on allowed count rest more (inl (h, some)) = inl (length_fault_on (IsEntryLength allowed) rest more h, some)
 no_part_on allowed count rest more (inr (inl (f, no_entry))) = inr (inl (frame_on (IsEntryLength allowed) rest more f, no_entry))
 no_part_on allowed count rest more (inr (inr (inl h))) = inr (inr (inl (record {
@@ -152,7 +152,7 @@ up_to_footer bytes rest head other entries others end begins none is =
 
 -- if the bytes after the entries show that there is no part, there is none
 shown_no_part : (bytes : List ℕ) (head : PartHead) (entries : List Change) (rest : List ℕ) → BeginsPart bytes head entries rest → ShowsNoPart (limits_of head.format) (length entries) rest
-    → (part : PartReading) → IsPartReading bytes part → ⊥
+    → (part : PartReading) → IsPartTextReading bytes part → ⊥
 shown_no_part bytes head entries rest begins shown part is =
     let none = shown_no_entry head.format (length entries) rest shown in
     let same = up_to_footer bytes rest head _ entries part.entries part.end begins none is.1 in
@@ -161,13 +161,13 @@ shown_no_part bytes head entries rest begins shown part is =
 
 -- nor is there one if nothing more can be read from the bytes after the entries
 left_no_part : (bytes : List ℕ) (head : PartHead) (entries : List Change) (rest : List ℕ) → BeginsPart bytes head entries rest → (rest ≡ []) ⊎ IsCutItem (limits_of head.format) rest
-    → (part : PartReading) → IsPartReading bytes part → ⊥
+    → (part : PartReading) → IsPartTextReading bytes part → ⊥
 left_no_part bytes head entries rest begins left part is =
     let same = up_to_footer bytes rest head _ entries part.entries part.end begins (left_no_entry head.format rest left) is.1 in
     none_left head.format rest left (footer_whole head.format rest [] part.end (length entries) (same.1 ∙ sym (append-nil (footer_bytes part.end (length entries)))))
 
 -- a fault that the bytes show is the fault of the bytes
-pub shown_fault : (fault : PartFault) (bytes : List ℕ) → ShowsPartFault bytes fault → IsPartFault bytes fault
+pub shown_fault : (fault : PartFault) (bytes : List ℕ) → ShowsPartTextFault bytes fault → IsPartTextFault bytes fault
 shown_fault faults.Header bytes h = h.0
 shown_fault (faults.Broken number entries) bytes (front, h) =
     let shown = subst (λ (n : ℕ). ShowsNoPart (limits_of front.head.format) n front.rest) front.counted h in
@@ -185,7 +185,7 @@ cut_no_header bytes cut = cut_none IsPartHead part_head_bytes (λ head other mor
 -- ---- bytes that show no fault
 
 -- a proper prefix of a part's header shows no fault
-cut_shows_none : (bytes : List ℕ) → IsUnfinishedFront IsPartHead part_head_bytes bytes → ShowsNoPartFault bytes
+cut_shows_none : (bytes : List ℕ) → IsUnfinishedFront IsPartHead part_head_bytes bytes → ShowsNoPartTextFault bytes
 cut_shows_none bytes cut faults.Header h = h.1 cut.head cut.more cut.is_head cut.begun
 cut_shows_none bytes cut (faults.Broken number entries) (front, h) =
     cut_no_header bytes cut front.head (flat_map entry_spelling front.entries ++ front.rest) front.begins.is_head front.begins.spelled
@@ -193,7 +193,7 @@ cut_shows_none bytes cut faults.Memory h = h
 
 -- a header, entries and the beginning of a further item, which may be empty, show no fault
 begun_shows_none : (bytes : List ℕ) (head : PartHead) (entries : List Change) (rest : List ℕ) → BeginsPart bytes head entries rest → (rest ≡ []) ⊎ IsCutItem (limits_of head.format) rest
-    → ShowsNoPartFault bytes
+    → ShowsNoPartTextFault bytes
 begun_shows_none bytes head entries rest begins left faults.Header h = h.0 head (flat_map entry_spelling entries ++ rest) begins.is_head begins.spelled
 begun_shows_none bytes head entries rest begins left (faults.Broken number count) (front, h) =
     let same = same_beginning bytes head front.head entries front.entries rest front.rest begins front.begins (left_no_entry head.format rest left) (shown_no_entry front.head.format count front.rest h) in
@@ -201,11 +201,11 @@ begun_shows_none bytes head entries rest begins left (faults.Broken number count
 begun_shows_none bytes head entries rest begins left faults.Memory h = h
 
 -- the contents of a part with this header, these entries and this end
-abbrev reading_of : PartHead → List Change → ℕ → PartReading
+abbrev pub reading_of : PartHead → List Change → ℕ → PartReading
 reading_of head entries end = record { number = head.number; begin = head.begin; part = head.part; parts = head.parts; entries = entries; end = end }
 
 -- a part shows no fault
-part_shows_none : (bytes : List ℕ) (head : PartHead) (entries : List Change) (end : ℕ) → IsPart bytes head entries end → ShowsNoPartFault bytes
+part_shows_none : (bytes : List ℕ) (head : PartHead) (entries : List Change) (end : ℕ) → IsPart bytes head entries end → ShowsNoPartTextFault bytes
 part_shows_none bytes head entries end is faults.Header h = h.0 head _ is.is_head is.spelled
 part_shows_none bytes head entries end is (faults.Broken number count) h = (shown_fault (faults.Broken number count) bytes h).no_part (reading_of head entries end) (head.format, is)
 part_shows_none bytes head entries end is faults.Memory h = h
@@ -217,7 +217,7 @@ unread s text rest none reads =
     sym (reads.joins ∙ ap (λ (x : List ℕ). x ++ rest) (rw (none, empty.0, empty.1) at reads.read.spelled))
 
 -- after the header is read, the input is the header, the entries, the footer if it was read, and the rest
-begun : (s : PartSoFar) (head : PartHead) (text rest : List ℕ) → s.head ≡ Some head → HasRead (HoldsPart s) text rest → BeginsPart text head s.entries (end_bytes s ++ rest)
+pub begun : (s : PartSoFar) (head : PartHead) (text rest : List ℕ) → s.head ≡ Some head → HasRead (HoldsPart s) text rest → BeginsPart text head s.entries (end_bytes s ++ rest)
 begun s head text rest some reads =
     let lawful : IsPartHead head × AllByRecursion (IsEntry (limits_of head.format)) s.entries = rw some at reads.read.lawful in
     record {
@@ -227,7 +227,7 @@ begun s head text rest some reads =
     }
 
 -- after a header, the bytes left are the beginning of an item, or none
-left_item : (s : PartSoFar) (head : PartHead) (left : List ℕ) → s.head ≡ Some head → IsPartLeft s left → (left ≡ []) ⊎ IsCutItem (limits_of head.format) left
+pub left_item : (s : PartSoFar) (head : PartHead) (left : List ℕ) → s.head ≡ Some head → IsPartLeft s left → (left ≡ []) ⊎ IsCutItem (limits_of head.format) left
 left_item s head left some rest = elim (rw some at rest) as (λ _. (left ≡ []) ⊎ IsCutItem (limits_of head.format) left) [ inl e ↦ inl e | inr cut ↦ inr cut.1 ]
 
 -- if a header and a footer were read, nothing is left, and the input is a part
@@ -241,16 +241,16 @@ part_read s head end text left some ends (reads, rest) =
 -- ---- feeds
 
 -- the input of a feed without a fault shows no fault
-pub fed_shows_none : (s : PartSoFar) (held text : List ℕ) → HoldsAll HoldsPart IsPartLeft s held text → ShowsNoPartFault text
+pub fed_shows_none : (s : PartSoFar) (held text : List ℕ) → HoldsAll HoldsPart IsPartLeft s held text → ShowsNoPartTextFault text
 fed_shows_none s held text (reads, left) = by s.head s.end refl refl
   where
-    by : (o : Option PartHead) (e : Option ℕ) → s.head ≡ o → s.end ≡ e → ShowsNoPartFault text
-    by None e none ends = subst ShowsNoPartFault (unread s text held none reads) (cut_shows_none held (rw none at left))
+    by : (o : Option PartHead) (e : Option ℕ) → s.head ≡ o → s.end ≡ e → ShowsNoPartTextFault text
+    by None e none ends = subst ShowsNoPartTextFault (unread s text held none reads) (cut_shows_none held (rw none at left))
     by (Some head) None some none = begun_shows_none text head s.entries held (rw none at (begun s head text held some reads)) (left_item s head held some left)
     by (Some head) (Some end) some ends = part_shows_none text head s.entries end (part_read s head end text held some ends (reads, left))
 
 -- the input of a feed that failed shows its fault
-pub fed_shows : (s : PartSoFar) (fault : PartFault) (text : List ℕ) → HasShown (HasRead (HoldsPart s) text) (IsPartFaulty s fault) → IsPartShown text fault
+pub fed_shows : (s : PartSoFar) (fault : PartFault) (text : List ℕ) → HasShown (HasRead (HoldsPart s) text) (IsPartFaulty s fault) → IsPartTextShown text fault
 fed_shows s faults.Header text h other =
     subst (ShowsNone IsPartHead part_head_bytes) (unread s text (h.shown ++ h.more) h.fault.0 h.read) (shows_none_on IsPartHead part_head_bytes h.shown h.more h.fault.1)
 fed_shows s (faults.Broken number count) text h other =
@@ -292,7 +292,7 @@ has_header : (bytes : List ℕ) (head : PartHead) (entries : List Change) (rest 
 has_header bytes head entries rest begins none = none head (flat_map entry_spelling entries ++ rest) begins.is_head begins.spelled
 
 -- bytes have at most one fault
-pub one_part_fault : (bytes : List ℕ) (fault other : PartFault) → IsPartFault bytes fault → IsPartFault bytes other → fault ≡ other
+pub one_part_fault : (bytes : List ℕ) (fault other : PartFault) → IsPartTextFault bytes fault → IsPartTextFault bytes other → fault ≡ other
 one_part_fault bytes faults.Header faults.Header f g = refl
 one_part_fault bytes faults.Header (faults.Broken number entries) f g = absurd (has_header bytes g.front.head g.front.entries g.front.rest g.front.begins f)
 one_part_fault bytes (faults.Broken number entries) faults.Header f g = absurd (has_header bytes f.front.head f.front.entries f.front.rest f.front.begins g)
@@ -308,7 +308,7 @@ one_part_fault bytes faults.Header faults.Memory f g = absurd g
 one_part_fault bytes (faults.Broken number entries) faults.Memory f g = absurd g
 
 -- a part has no fault
-pub part_or_fault : (bytes : List ℕ) (head : PartHead) (entries : List Change) (end : ℕ) (fault : PartFault) → IsPart bytes head entries end → IsPartFault bytes fault → ⊥
+pub part_or_fault : (bytes : List ℕ) (head : PartHead) (entries : List Change) (end : ℕ) (fault : PartFault) → IsPart bytes head entries end → IsPartTextFault bytes fault → ⊥
 part_or_fault bytes head entries end faults.Header is f =
     has_header bytes head entries (footer_bytes end (length entries)) (part_begins bytes head entries end is) f
 part_or_fault bytes head entries end (faults.Broken number count) is f = f.no_part (reading_of head entries end) (head.format, is)

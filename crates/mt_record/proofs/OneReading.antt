@@ -209,7 +209,7 @@ no_header_not_log : (bytes text : List ℕ) (log : LogReading) (ended : Bool) (t
 no_header_not_log bytes text log ended tail is (inl own) k = k.0 log.head (flat_map spelling log.records ++ tail) is.is_head (sym own.0.1 ∙ is.spelled)
 no_header_not_log bytes text log ended tail is (inr file) k = k.1 file.header (blocks (mark_of file.header) file.bodies ++ file.end) file.is_file.begins.is_header file.is_file.begins.spelled
 
-damage_not_log : (bytes text part : List ℕ) (ended : Bool) → Opens bytes text ended → IsDamagedAfter bytes part → ⊥
+pub damage_not_log : (bytes text part : List ℕ) (ended : Bool) → Opens bytes text ended → IsDamagedAfter bytes part → ⊥
 damage_not_log bytes text part ended (inl own) d = own.0.0 (begins_sealed bytes d.header d.bodies d.is_damaged.rest d.is_damaged.begins)
 damage_not_log bytes text part ended (inr file) d = not_both_of bytes file.header d.header file.bodies d.bodies file.end file.is_file d.is_damaged
 

@@ -1,22 +1,22 @@
 -- Files and the texts that they contain.
-use Rattle.std.proofs.Common.{◌≡◌, ◌↔◌, ◌⊎◌, inl, inr, ℕ, ◌+◌, ◌<◌, ◌≤◌, Bool, true, false, Option, Some, None, List, [], ◌∷◌, ◌++◌, length, drop, refl, sym, ap, ◌∙◌, subst, append_assoc, arith}
+use Rattle.std.proofs.Common.{◌≡◌, ◌↔◌, ◌⊎◌, inl, inr, ℕ, ◌+◌, ◌≤◌, Bool, true, false, Option, Some, None, List, [], ◌∷◌, ◌++◌, length, drop, refl, sym, ap, ◌∙◌, subst, append_assoc, arith}
 use Rattle.std.specs.Prelude.{IsTrue, MatchBool, codes, slice_index}
 use Rattle.std.specs.List.{flat_map, All}
 use Rattle.std.proofs.lemmas.Bool.{false≢true}
 use Rattle.std.proofs.lemmas.List.{length-append, append-nil}
 use Rattle.std.proofs.lemmas.List.Elements.{All-head, All-tail}
 use Rattle.byteorder.specs.Endian.{big_bytes}
-use Rattle.mt_words.specs.declared.fault.What.{What}
 use Rattle.mt_words.specs.declared.limits.Format.{Format}
 use Rattle.mt_words.specs.declared.limits.Format.TheVariants.{One, Two}
 use Rattle.mt_words.specs.Limits.{limits_of}
 use Rattle.mt_words.specs.Changes.{Logged}
 use Rattle.mt_block.specs.declared.header.Header.{Header}
-use Rattle.mt_block.specs.Blocks.{IsHeader, header_bytes, header_fields, mark_of, block, IsBody, IsNext, IsTornEnd, IsDamage, blocks, Begins, IsFile, IsDamaged}
+use Rattle.mt_block.specs.Blocks.{header_bytes, header_fields, mark_of, block, IsBody, IsNext, IsTornEnd, blocks, Begins}
 use Rattle.mt_block.proofs.Heads.{same_split, block-length, codeword-length}
 use Rattle.mt_block.proofs.Headers.{same_size, same_header}
 use Rattle.mt_block.proofs.Places.{next_not_cut, next_not_broken}
-use Rattle.mt_block.proofs.Files.{flat, same_block, one_file_of, one_damage_of, not_both_of}
+use Rattle.mt_block.proofs.Files.{flat, same_block, one_file_of}
+use Rattle.mt_record.proofs.Seals.{joined-append}
 use Rattle.mt_record.specs.declared.feed.head.Head.{Head}
 use Rattle.mt_record.specs.declared.feed.head.Segment.{Segment}
 use Rattle.mt_record.specs.declared.read.FeedFault.{FeedFault}
@@ -27,16 +27,16 @@ use Rattle.mt_record.specs.declared.front.Rest.TheVariants.{Nothing, Torn, Fault
 use Rattle.mt_record.specs.Spelling.{spelling}
 use Rattle.mt_record.specs.Fronts.{GoTogether}
 use Rattle.mt_record.specs.Heads.{IsHead, log_magic, segment_bytes, head_bytes}
-use Rattle.mt_record.specs.Opening.{IsSealed, HasNoSeal, text_head, joined, text_of, is_torn, IsUnsealed, IsUnsealedSoFar, IsDamagedAfter, IsOwnText, Opens, OpensSoFar}
-use Rattle.mt_record.specs.Logs.{AreRecords, latest, IsTorn, IsLog, LogReading, IsReading, log_bytes, count_of}
+use Rattle.mt_record.specs.Opening.{IsSealed, text_head, joined, text_of, is_torn, IsUnsealedSoFar, IsOwnText, Opens, OpensSoFar}
+use Rattle.mt_record.specs.Logs.{AreRecords, latest, IsTorn, IsLog, LogReading, IsReading, log_bytes}
 use Rattle.mt_record.specs.LogTexts.{tail_rest}
 use Rattle.mt_record.specs.LogFronts.{IsEnd, IsTextRest, IsRest, IsTextFrontOf, IsFrontOf}
-use Rattle.mt_record.specs.LogFaults.{IsRecordFault, IsTextFault, HasTextFault, IsDamagedLog, IsLogFault}
+use Rattle.mt_record.specs.LogFaults.{IsRecordFault, IsTextFault, IsLogFault}
 use Rattle.mt_record.proofs.Records.{torn_some}
 
 -- ---- which magic
 
-not_four : (format : Format) → (limits_of format).digit ≡ 52 → ⊥
+pub not_four : (format : Format) → (limits_of format).digit ≡ 52 → ⊥
 not_four One e = omega (arith, e)
 not_four Two e = omega (arith, e)
 
@@ -156,10 +156,6 @@ go_along mark (b ∷ bs) (c ∷ cs) rest end are is e =
       | longer more same ↦ longer more (λ i. s.0 i ∷ same i)
       | shorter more body after same next ↦ shorter more body after (λ i. sym s.0 i ∷ same i) next
     ]
-
-joined-append : (bs cs : List (List ℕ)) → joined (bs ++ cs) ≡ joined bs ++ joined cs
-joined-append [] cs = refl
-joined-append (b ∷ bs) cs = ap (λ (l : List ℕ). b ++ l) (joined-append bs cs) ∙ sym (append_assoc b (joined bs) (joined cs))
 
 -- no block stands at the end of a file
 pub no_next : (mark : ℕ) (end : List ℕ) → (end ≡ []) ⊎ IsTornEnd mark end → (body after : List ℕ) → IsNext mark end body after → ⊥

@@ -1,21 +1,22 @@
 -- Splitting the records of a log at a cutoff.
-use Rattle.std.proofs.Common.{◌≡◌, inl, inr, ℕ, ◌^◌, ◌<◌, ◌≤◌, min, ltb, List, [], ◌∷◌, ◌++◌, length, take, refl, sym, ap, ◌∙◌, append_assoc, arith}
-use Rattle.std.specs.Prelude.{◌==◌, not}
-use Rattle.std.specs.List.{flat_map}
-use Rattle.std.proofs.lemmas.Bool.{cases_Bool, le-ltb, ltb-false}
+use Rattle.std.proofs.Common.{◌≡◌, ◌⊎◌, inl, inr, ℕ, ◌^◌, ◌<◌, ◌≤◌, min, ltb, eqb, Bool, true, false, List, [], ◌∷◌, ◌++◌, length, take, refl, sym, ap, ◌∙◌, append_assoc, arith}
+use Rattle.std.specs.Prelude.{◌==◌, ◌||◌, not}
+use Rattle.std.specs.List.{flat_map, list_any}
+use Rattle.std.proofs.lemmas.Bool.{cases_Bool, cases_lt, lt-ltb, le-ltb, ltb-true, ltb-false, ne_eqb, and_right, or_from}
+use Rattle.std.proofs.lemmas.List.Folds.{list_any-append}
 use Rattle.std.proofs.lemmas.List.{length-append}
 use Rattle.std.proofs.lemmas.Grind.{flat_map-append}
 use Rattle.std.proofs.Math.Seq.{take-append_seam}
 use Rattle.mt_words.specs.declared.limits.Limits.{Limits}
 use Rattle.mt_words.specs.Limits.{limits_of}
-use Rattle.mt_words.specs.Changes.{Logged}
+use Rattle.mt_words.specs.Changes.{Logged, is_mark}
 use Rattle.mt_words.proofs.ColumnBytes.{same_split}
 use Rattle.mt_record.specs.Spelling.{spelling}
 use Rattle.mt_record.specs.declared.feed.head.Head.{Head}
 use Rattle.mt_record.specs.declared.resume.Split.{Split}
 use Rattle.mt_record.specs.Heads.{IsHead, head_bytes}
 use Rattle.mt_record.specs.Logs.{AreRecords, LogReading, IsReading}
-use Rattle.mt_record.specs.Resuming.{below, marks_of, IsResumed}
+use Rattle.mt_record.specs.Resuming.{greatest_timestamp, is_end, is_ended, below, marks_of, IsResumed}
 use Rattle.mt_record.specs.Steps.Splits.{IsSplitIn}
 use Rattle.mt_record.proofs.Opened.{plain_reading}
 use Rattle.mt_record.proofs.OneLog.{same_head}
@@ -98,3 +99,40 @@ unchanged header kept marks late head from is_head fits begins e =
 pub as_before : (header kept marks late : List ℕ) (head : Head) (from : ℕ) → header ≡ head_bytes (record head { from = from }) → from ≡ head.from → late ≡ marks
     → header ++ (kept ++ marks) ≡ head_bytes head ++ (kept ++ late)
 as_before header kept marks late head from begins same are = λ i. (begins ∙ ap (λ (n : ℕ). head_bytes (record head { from = n })) same) i ++ (kept ++ sym are i)
+
+-- ---- whether a mark ends the log
+
+none_ended : (cutoff : ℕ) (rs : List Logged) → cutoff < 2 ^ 64 → list_any is_end (below cutoff rs) ≡ false
+none_ended cutoff [] fits = refl
+none_ended cutoff (r ∷ rs) fits = elim (cases_Bool (ltb r.timestamp cutoff)) as (λ _. list_any is_end (below cutoff (r ∷ rs)) ≡ false) [
+  | inl is ↦
+      let early : r.timestamp < cutoff = ltb-true r.timestamp cutoff is in
+      let apart : (r.timestamp ≡ greatest_timestamp) → ⊥ = λ e. omega (arith, early, fits, e) in
+      rw is (or_from (is_end r) (list_any is_end (below cutoff rs)) (and_right (is_mark r) (r.timestamp == greatest_timestamp) (ne_eqb r.timestamp greatest_timestamp apart)) (none_ended cutoff rs fits))
+  | inr not ↦ rw not (none_ended cutoff rs fits)
+]
+
+-- a mark ends what replaces a log if one ends the log, or if the cutoff is the greatest timestamp
+pub ended_resumed : (cutoff : ℕ) (rs : List Logged) → cutoff < 2 ^ 64 → (is_ended rs || (cutoff == greatest_timestamp)) ≡ is_ended (below cutoff rs ++ marks_of cutoff rs)
+ended_resumed cutoff rs fits = by (cases_lt cutoff greatest_timestamp) (cases_Bool (list_any is_end rs))
+  where
+    front : List Logged
+    front = below cutoff rs
+
+    Told : Type 0
+    Told = (list_any is_end rs || (cutoff == greatest_timestamp)) ≡ list_any is_end (front ++ marks_of cutoff rs)
+
+    in_marks : list_any is_end (front ++ marks_of cutoff rs) ≡ list_any is_end (marks_of cutoff rs)
+    in_marks = list_any-append is_end front (marks_of cutoff rs) ∙ ap (λ (b : Bool). b || list_any is_end (marks_of cutoff rs)) (none_ended cutoff rs fits)
+
+    not_first : cutoff < greatest_timestamp → eqb cutoff greatest_timestamp ≡ false
+    not_first less = ne_eqb cutoff greatest_timestamp (λ e. omega (arith, less, e))
+
+    first : greatest_timestamp ≤ cutoff → eqb cutoff greatest_timestamp ≡ true
+    first most = let e : cutoff ≡ greatest_timestamp = omega (arith, most, fits) in ap (λ (n : ℕ). eqb n greatest_timestamp) e
+
+    by : (cutoff < greatest_timestamp) ⊎ (greatest_timestamp ≤ cutoff) → (list_any is_end rs ≡ true) ⊎ (list_any is_end rs ≡ false) → Told
+    by (inl less) (inl ended) = rw in_marks (rw (ended, lt-ltb cutoff greatest_timestamp less, not_first less) refl)
+    by (inl less) (inr fails) = rw in_marks (rw (fails, not_first less) refl)
+    by (inr most) (inl ended) = rw in_marks (rw (ended, first most) refl)
+    by (inr most) (inr fails) = rw in_marks (rw (fails, first most) refl)

@@ -1,8 +1,7 @@
 -- What the first bytes of a file tell.
-use Rattle.std.proofs.Common.{◌≡◌, ◌⊎◌, inl, inr, ℕ, ◌+◌, ◌-◌, ◌<◌, ◌≤◌, min, max, Bool, true, false, Option, Some, None, List, [], ◌∷◌, ◌++◌, length, take, drop, refl, sym, ap, ◌∙◌, subst, append_assoc, arith}
+use Rattle.std.proofs.Common.{◌≡◌, ◌⊎◌, inl, inr, ℕ, ◌+◌, ◌-◌, ◌<◌, ◌≤◌, min, max, Bool, false, Option, Some, None, List, [], ◌∷◌, ◌++◌, length, refl, sym, ap, ◌∙◌, subst, arith}
 use Rattle.std.specs.Prelude.{codes, MatchBool, Result, Ok, Err, IfOk, IfErr}
-use Rattle.std.specs.List.{All, flat_map}
-use Rattle.std.proofs.lemmas.Bool.{false≢true}
+use Rattle.std.specs.List.{flat_map}
 use Rattle.std.proofs.lemmas.List.{length-append, append-nil, nil_from_length}
 use Rattle.std.proofs.lemmas.List.Elements.{All-nil}
 use Rattle.std.proofs.lemmas.Option.{none-some, same_Some}
@@ -14,15 +13,15 @@ use Rattle.mt_record.specs.declared.read.FeedFault.TheVariants as faults
 use Rattle.mt_record.specs.declared.front.LogFront.{LogFront}
 use Rattle.mt_record.specs.declared.front.Rest.TheVariants.{Nothing}
 use Rattle.mt_record.specs.Spelling.{spelling}
-use Rattle.mt_record.specs.Heads.{IsHead, head_bytes}
-use Rattle.mt_record.specs.Opening.{IsSealed, HasNoSeal, text_head}
-use Rattle.mt_record.specs.Feeding.{HasRead, HoldsAll, IsFedBy}
+use Rattle.mt_record.specs.Heads.{head_bytes}
+use Rattle.mt_record.specs.Opening.{IsSealed, text_head}
+use Rattle.mt_record.specs.Feeding.{HoldsAll, IsFedBy}
 use Rattle.mt_record.specs.Unsealing.{Place, FileSoFar, HoldsBlocks, AreBlocksLeft, AreBlocksFaulty, IsPassed, HasPassed, IsUntold, ShowsNoSeal, IsPlain, IsFedUntold}
 use Rattle.mt_record.specs.declared.feed.file_feed.Told.{Told}
 use Rattle.mt_record.specs.declared.feed.file_feed.Told.TheVariants as told
-use Rattle.mt_record.specs.Telling.{Tells, IsToldBy}
-use Rattle.mt_record.specs.LogFeeding.{LogSoFar, IsHeaderShown, IsMemory, IsReadTo, HoldsLog, IsLogLeft, IsLogFaulty, damage_after, IsTextFed}
-use Rattle.mt_record.proofs.Feeds.{apart, fed_on}
+use Rattle.mt_record.specs.Steps.Telling.{Tells, IsToldBy}
+use Rattle.mt_record.specs.LogFeeding.{LogSoFar, IsHeaderShown, IsMemory, IsReadTo, HoldsLog, IsLogLeft, IsTextFed}
+use Rattle.mt_record.proofs.Feeds.{apart}
 use Rattle.mt_record.proofs.Opened.{header-length}
 use Rattle.mt_record.proofs.LogFeeds.{begins_at}
 use Rattle.mt_record.proofs.FileFeeds.{shows_no_seal_on, text_is_head, untold_short}

@@ -1,18 +1,17 @@
 -- The blocks of a file, read in chunks.
-use Rattle.std.proofs.Common.{◌≡◌, ◌⊎◌, inl, inr, ℕ, ◌+◌, ◌-◌, ◌<◌, ◌≤◌, Bool, true, false, Option, Some, None, List, [], ◌∷◌, ◌++◌, length, take, drop, refl, sym, ap, ◌∙◌, subst, append_assoc, arith}
+use Rattle.std.proofs.Common.{◌≡◌, ◌⊎◌, inl, inr, ℕ, ◌+◌, ◌-◌, ◌<◌, ◌≤◌, Bool, true, false, List, [], ◌∷◌, ◌++◌, length, take, drop, refl, sym, ap, ◌∙◌, subst, append_assoc, arith}
 use Rattle.std.proofs.lemmas.Bool.{cases_lt, false≢true}
 use Rattle.std.specs.Prelude.{◌==◌, MatchBool}
-use Rattle.std.specs.List.{All}
-use Rattle.std.proofs.lemmas.List.{length-append, append-nil, take-append-drop, length-drop, length-take, flat_map_more, take_rest}
+use Rattle.std.proofs.lemmas.List.{length-append, append-nil, take-append-drop, length-drop, flat_map_more, take_rest}
 use Rattle.std.proofs.lemmas.List.Elements.{All-append, All-cons, All-nil}
-use Rattle.mt_block.specs.Blocks.{head_bytes, block, IsBody, HasHead, HasNoHead, HasSomeHead, IsNext, IsCut, LacksHead, LacksBody, IsBroken, IsTornEnd, IsDamage, blocks}
+use Rattle.mt_block.specs.Blocks.{head_bytes, block, IsBody, HasHead, HasNoHead, HasSomeHead, IsNext, IsCut, IsBroken, IsTornEnd, IsDamage, blocks}
 use Rattle.mt_block.proofs.Heads.{same_split, head-length, head_long as head_size, block-length}
-use Rattle.mt_block.proofs.Files.{IsCutAt, cut_at}
+use Rattle.mt_block.proofs.Files.{cut_at}
+use Rattle.mt_block.proofs.Seals.{joined_more}
 use Rattle.mt_record.specs.declared.feed.blocks.Blocks.{Blocks}
-use Rattle.mt_record.specs.Fronts.{GoTogether}
 use Rattle.mt_record.specs.Opening.{joined}
-use Rattle.mt_record.specs.Feeding.{HasRead, HasShown, Reads, IsFedBy}
-use Rattle.mt_record.specs.Unsealing.{Place, place_of, IsSeam, IsPassed, HasPassed, HoldsBlocks, AreBlocksLeft, AreBlocksFaulty}
+use Rattle.mt_record.specs.Feeding.{Reads, IsFedBy}
+use Rattle.mt_record.specs.Unsealing.{Place, place_of, IsSeam, IsPassed, HasPassed, HoldsBlocks}
 use Rattle.mt_record.proofs.Feeds.{behind_on, front_read, apart}
 
 -- ---- heads, when more bytes follow
@@ -170,10 +169,6 @@ passes is_fed text mark place new before bytes same h on = record {
 -- the seam is as it was
 pub seam_kept : (is_fed : List ℕ → Type 0) (text : List ℕ) (mark : ℕ) (place : Place) (seam before : List ℕ) → seam ≡ place.seam → HoldsBlocks is_fed place text mark before → HoldsBlocks is_fed (record place { seam = seam }) text mark before
 seam_kept is_fed text mark place seam before e h = subst (λ (l : List ℕ). HoldsBlocks is_fed (record place { seam = l }) text mark before) (sym e) h
-
-joined_more : (bodies : List (List ℕ)) (body : List ℕ) → joined (bodies ++ body ∷ []) ≡ joined bodies ++ body
-joined_more [] body = append-nil body
-joined_more (b ∷ bs) body = ap (λ (l : List ℕ). b ++ l) (joined_more bs body) ∙ sym (append_assoc b (joined bs) body)
 
 -- a block is read, and its body fed
 pub block_read : {T I F : Type 0} (holds : T → I → List ℕ → Type 0) (is_left : I → List ℕ → Type 0) (shows : I → F → List ℕ → Type 0) (old new : Blocks I F) (bytes body after : List ℕ)

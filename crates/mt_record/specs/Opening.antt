@@ -1,8 +1,8 @@
 -- Which text a file contains. A file of formats 1 to 3 is its own text. The text of a file of format 4 is that of a segment: its header, and the bodies of its blocks.
 use Rattle.std.specs.Prelude.{◌≡◌, ℕ, ◌⊎◌, Bool, true, false, List, [], ◌++◌, codes}
-use Rattle.std.specs.List.{flat_map}
 use Rattle.mt_block.specs.declared.header.Header.{Header}
 use Rattle.mt_block.specs.Blocks.{IsHeader, header_bytes, Begins, IsFile, IsDamaged}
+pub use Rattle.mt_block.specs.Sealing.{joined}
 use Rattle.mt_record.specs.declared.feed.head.Head.{Head}
 use Rattle.mt_record.specs.Heads.{head_bytes}
 use Rattle.mt_record.specs.Encoding.{segment_head}
@@ -19,10 +19,6 @@ HasNoSeal bytes = (header : Header) (more : List ℕ) → IsHeader header → by
 -- the header of the text of a file with this header
 abbrev pub text_head : Header → Head
 text_head header = segment_head header.from header.worker header.segment
-
--- the bodies, one after the other
-abbrev pub joined : List (List ℕ) → List ℕ
-joined bodies = flat_map (λ body. body) bodies
 
 -- the text of a file with this header and these bodies
 abbrev pub text_of : Header → List (List ℕ) → List ℕ

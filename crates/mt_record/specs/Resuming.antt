@@ -1,8 +1,11 @@
 -- Resuming after a crash: what replaces a log.
-use Rattle.std.specs.Prelude.{◌≡◌, ℕ, ◌-◌, ◌^◌, ◌==◌, ◌&&◌, min, not, nat_lt, nat_le, if◌then◌else◌, Bool, false, List, [], ◌∷◌, ◌++◌, filter}
+use Rattle.std.specs.Prelude.{◌≡◌, ℕ, ◌-◌, ◌^◌, ◌==◌, ◌&&◌, ◌⊎◌, min, not, nat_lt, nat_le, if◌then◌else◌, Bool, false, List, [], ◌∷◌, ◌++◌, filter}
 use Rattle.std.specs.List.{list_any}
 use Rattle.mt_words.specs.Changes.{Logged, is_mark}
 use Rattle.mt_words.specs.Built.{mark_of}
+use Rattle.mt_block.specs.declared.header.Header.{Header}
+use Rattle.mt_block.specs.Blocks.{IsFile}
+use Rattle.mt_record.specs.Opening.{IsSealed, text_of}
 use Rattle.mt_record.specs.Logs.{log_bytes, LogReading, IsReading}
 
 -- the greatest timestamp that a record can have
@@ -37,8 +40,26 @@ resumed cutoff log = record {
   torn = false;
 }
 
--- the bytes after are the encoding of what replaces the log
+-- the text after is the encoding of what replaces the log
 pub record IsResumed (cutoff : ℕ) (before after : List ℕ) : Type 0 where
   pub log : LogReading
   pub is_reading : IsReading before log
   pub spelled : after ≡ log_bytes (resumed cutoff log).head (resumed cutoff log).records
+
+-- the header of a file of format 4 that replaces one with this header
+abbrev pub resumed_header : ℕ → ℕ → Header → Header
+resumed_header cutoff salt header = record header { salt = salt; from = min header.from cutoff }
+
+-- The bytes before are a file of format 4. The bytes after are one too, with this salt and no torn end, whose text is the encoding of what replaces the log.
+pub record IsSealedAgain (cutoff salt : ℕ) (before after : List ℕ) : Type 0 where
+  pub header : Header
+  pub bodies : List (List ℕ)
+  pub end : List ℕ
+  pub is_file : IsFile before header bodies end
+  pub new : List (List ℕ)
+  pub replaces : IsFile after (resumed_header cutoff salt header) new []
+  pub is_resumed : IsResumed cutoff (text_of header bodies) (text_of (resumed_header cutoff salt header) new)
+
+-- the bytes after are a file that replaces the log: of the format of the bytes before, and with this salt if they are of format 4
+abbrev pub Replaces : ℕ → ℕ → List ℕ → List ℕ → Type 0
+Replaces cutoff salt before after = ((IsSealed before → ⊥) × IsResumed cutoff before after) ⊎ IsSealedAgain cutoff salt before after

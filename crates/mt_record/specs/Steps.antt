@@ -6,3 +6,4 @@ pub mod Blocks
 pub mod Kept
 pub mod Splits
 pub mod Salvages
+pub mod Telling

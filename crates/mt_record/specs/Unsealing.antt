@@ -1,5 +1,5 @@
 -- Reading the blocks of a file in chunks, whatever the text in them is.
-use Rattle.std.specs.Prelude.{◌≡◌, ℕ, ◌≤◌, ◌<◌, ◌^◌, ◌⊎◌, Bool, true, false, Option, Some, None, Result, List, [], ◌++◌, length, All, MatchBool, codes}
+use Rattle.std.specs.Prelude.{◌≡◌, ℕ, ◌≤◌, ◌<◌, ◌⊎◌, Bool, false, Option, Some, None, Result, List, [], ◌++◌, length, All, MatchBool, codes}
 use Rattle.std.specs.Borrow.{Bor}
 use Rattle.mt_block.specs.declared.header.Header.{Header}
 use Rattle.mt_block.specs.Blocks.{IsHeader, header_bytes, mark_of, IsBody, HasNoHead, HasSomeHead, IsCut, IsBroken, IsDamage, blocks}

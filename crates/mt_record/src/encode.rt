@@ -3,7 +3,7 @@ pub mod given;
 pub mod parts;
 pub mod put;
 
-ghost use Rattle.std.specs.Prelude.{◌≡◌, ◌<◌, ◌^◌, ◌++◌, length, OnOk, OnErr};
+ghost use Rattle.std.specs.Prelude.{◌≡◌, ◌<◌, ◌^◌, ◌++◌, ◌≤◌, length, OnOk, OnErr, vec_capacity};
 ghost use Rattle.mt_words.specs.Limits.{widest};
 ghost use Rattle.mt_words.specs.declared.limits.Format.TheVariants.{One, Two};
 ghost use Rattle.mt_words.specs.Words.{AreColumns, AreNumbers};
@@ -72,6 +72,7 @@ pub fn append_header(format: Format, from: u64, out: &mut Vec<u8>) -> Result<(),
 pub fn encode_record(record: &Record, out: &mut Vec<u8>) -> Result<(), Memory>
     ensures ok { OnOk result (out.new.items ≡ out.old.items ++ spelling «record».now) }
     ensures err { OnErr result (out.new.items ≡ out.old.items) }
+    ensures room { vec_capacity out.old ≤ vec_capacity out.new }
 {
     let length = body_length(record) as u32;
     out.reserve(4 + length as usize + 4)?;

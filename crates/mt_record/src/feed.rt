@@ -8,6 +8,7 @@ pub mod log_feed;
 pub mod log_items;
 pub mod magic;
 pub mod part_feed;
+pub mod part_file;
 pub mod part_head;
 pub mod part_items;
 

@@ -17,7 +17,8 @@ pub struct LogFront {
     pub latest: u64,
     /// The greatest version of the complete records, or 0 if none has a version.
     pub version: u64,
-    /// The number of bytes of the header and of the complete records, counted up to 2^64 - 1.
+    /// The number of bytes of the header and of the complete records, counted up to 2^64 - 1. In a file of format 4
+    /// these are bytes of its text: a segment's header, and what stands in the blocks.
     pub bytes: u64,
     pub rest: Rest,
 }

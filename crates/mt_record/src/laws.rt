@@ -15,7 +15,7 @@ ghost use Rattle.mt_record.specs.Logs.{IsLog, LogReading, IsReading};
 ghost use Rattle.mt_record.specs.LogFaults.{IsLogFault};
 ghost use Rattle.mt_record.specs.declared.part_text.PartHead.{PartHead};
 ghost use Rattle.mt_record.specs.declared.part_text.PartFault.{PartFault};
-ghost use Rattle.mt_record.specs.Parts.{IsPart, entry_spelling};
+ghost use Rattle.mt_record.specs.Parts.{IsPart, entry_spelling, PartReading, IsPartReading};
 ghost use Rattle.mt_record.specs.PartFaults.{IsPartFault};
 
 /// A text is a log in at most one way. A file is a log in at most one way and has at most one fault, never both. No encoding of a record begins the
@@ -33,16 +33,18 @@ pub fn one_reading()
         (r ≡ s) × (more ≡ []) }
 {}
 
-/// Bytes are a part of a checkpoint in at most one way and have at most one fault, never both. No encoding of an entry
-/// begins the encoding of another entry. This is a law: it has nothing to run.
+/// A text is a part of a checkpoint in at most one way. A file is a part in at most one way and has at most one fault,
+/// never both. No encoding of an entry begins the encoding of another entry. This is a law: it has nothing to run.
 pub fn one_part()
     ensures one_part { (bytes : List ℕ) (head other : PartHead) (entries others : List Change) (end fin : ℕ) →
         IsPart bytes head entries end → IsPart bytes other others fin →
         (head ≡ other) × (entries ≡ others) × (end ≡ fin) }
     ensures one_fault { (bytes : List ℕ) (fault other : PartFault) →
         IsPartFault bytes fault → IsPartFault bytes other → fault ≡ other }
-    ensures not_both { (bytes : List ℕ) (head : PartHead) (entries : List Change) (end : ℕ) (fault : PartFault) →
-        IsPart bytes head entries end → IsPartFault bytes fault → ⊥ }
+    ensures one_reading { (bytes : List ℕ) (part other : PartReading) →
+        IsPartReading bytes part → IsPartReading bytes other → part ≡ other }
+    ensures not_both { (bytes : List ℕ) (part : PartReading) (fault : PartFault) →
+        IsPartReading bytes part → IsPartFault bytes fault → ⊥ }
     ensures prefix_free { (format : Format) (entry other : Change) (more : List ℕ) →
         IsEntry (limits_of format) entry → IsEntry (limits_of format) other →
         entry_spelling other ≡ entry_spelling entry ++ more → (entry ≡ other) × (more ≡ []) }

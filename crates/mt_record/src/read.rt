@@ -6,7 +6,7 @@ ghost use Rattle.mt_record.specs.declared.read.FeedFault.TheVariants as faults;
 ghost use Rattle.mt_record.specs.Logs.{log_bytes};
 ghost use Rattle.mt_record.specs.LogTexts.{IsTextOf};
 ghost use Rattle.mt_record.specs.Fronts.{IsNext, Stops};
-ghost use Rattle.mt_record.specs.LogFronts.{IsTextFrontOf};
+ghost use Rattle.mt_record.specs.LogFronts.{IsFrontOf, IsTextFrontOf};
 ghost use Rattle.mt_record.specs.Answered.{IsAnswered, IsTextAnswered, fault_at};
 
 use crate::body::copy::copy_record;
@@ -36,7 +36,8 @@ pub enum FeedFault {
     /// The bytes do not begin with a header.
     #[error("header")]
     Header,
-    /// After the header and `nth` complete records comes neither a record nor a torn tail.
+    /// After the header and `nth` complete records comes neither a record nor a torn tail, or the file is damaged
+    /// there (`What::Checksum`).
     #[error("record {nth}: {what}")]
     Record { nth: u64, what: What },
     /// An allocation failed.
@@ -88,6 +89,16 @@ pub fn cut_log(alloc: Global, bytes: &[u8]) -> Result<(LogFront, &[u8]), FeedFau
     if is_sealed(bytes) {
         return Err(FeedFault::Header);
     }
+    let front = log_front(alloc, bytes)?;
+    Ok((front, &bytes[..front.bytes as usize]))
+}
+
+/// Returns how far a file is a log. It keeps no record.
+/// Err: the bytes have no header, or `Memory` if an allocation failed.
+pub fn log_front(alloc: Global, bytes: &[u8]) -> Result<LogFront, FeedFault>
+    ensures front { IfOk result (λ front. (records : List Logged) × IsFrontOf bytes.now records front) }
+    ensures fault { IfErr result (IsAnswered bytes.now) }
+{
     let mut feed = LogFeed::keeping(alloc);
     let mut read = 0;
     while read < bytes.len() {
@@ -98,7 +109,7 @@ pub fn cut_log(alloc: Global, bytes: &[u8]) -> Result<(LogFront, &[u8]), FeedFau
         read = end;
     }
     let front = feed.front()?;
-    Ok((front, &bytes[..front.bytes as usize]))
+    Ok(front)
 }
 
 /// Returns the record at the front of bytes, and the bytes after it. `latest` is the timestamp of the record before it.

@@ -1,74 +1,157 @@
 //! What replaces a log when a server resumes after a crash.
-ghost use Rattle.std.specs.Prelude.{◌≡◌, ◌≢◌, ◌+◌, ◌<◌, ◌^◌, ◌↔◌, ◌∷◌, ◌++◌, [], List, length, IsTrue, IfOk, IfErr};
+ghost use Rattle.std.specs.Prelude.{◌≡◌, ◌≢◌, ◌+◌, ◌<◌, ◌^◌, ◌↔◌, ◌⊎◌, ◌∷◌, ◌++◌, [], List, ℕ, min, length, IsTrue, IfOk, IfErr};
 ghost use Rattle.std.specs.List.{flat_map};
 ghost use Rattle.mt_words.specs.Changes.{Logged};
+ghost use Rattle.mt_block.specs.Blocks.{IsHeader, IsFile};
 ghost use Rattle.mt_record.specs.declared.feed.head.Head.{Head as HeadValue};
 ghost use Rattle.mt_record.specs.Spelling.{spelling};
 ghost use Rattle.mt_record.specs.Heads.{IsHead, head_bytes};
+ghost use Rattle.mt_record.specs.Opening.{IsSealed, IsDamagedAfter, joined};
 ghost use Rattle.mt_record.specs.Logs.{LogReading, IsReading, count_of};
 ghost use Rattle.mt_record.specs.LogFaults.{IsTextFault};
-ghost use Rattle.mt_record.specs.Answered.{IsTextAnswered};
+ghost use Rattle.mt_record.specs.Answered.{IsAnswered, IsTextAnswered};
 ghost use Rattle.mt_record.specs.Decoding.{IsBody, decode};
-ghost use Rattle.mt_record.specs.Resuming.{is_end, is_ended, updates_past, marks_of, IsResumed};
+ghost use Rattle.mt_record.specs.Resuming.{is_end, is_ended, updates_past, marks_of, resumed, IsResumed, Replaces};
 ghost use Rattle.mt_record.specs.Steps.Splits.{IsSplitOf, IsSplitIn};
 
 use crate::body::spelled;
 use crate::encode::{append_header, encode_log_header_3, encode_record};
 use crate::feed::frame::next_record;
 use crate::feed::head::{Head, header_at};
-use crate::read::FeedFault;
+use crate::front::Rest;
+use crate::open::{FileEnd, open_file};
+use crate::read::{FeedFault, log_front};
+use mt_block::{Header, append_blocks};
 use mt_words::{Format, Memory, Record};
 use std::alloc::Global;
 
-/// What replaces a log: the header, the records and the marks, one after the other.
+/// What replaces a log: these bytes, one after the other.
 #[derive(Debug, Drop)]
 pub struct ResumedLog<'a> {
-    /// The header of the log, with a `from` of at most the cutoff.
-    pub header: Vec<u8>,
+    /// The header of the log, with a `from` of at most the cutoff. Of a file of format 4 it is all that replaces it.
+    pub front: Vec<u8>,
     /// The records of the log below the cutoff, borrowed from its bytes.
     pub records: &'a [u8],
     /// A mark at the cutoff, and the mark that ends the log if it was ended.
     pub marks: Vec<u8>,
     /// The number of updates at or past the cutoff, which go, counted up to 2^64 - 1.
     pub dropped: u64,
-    /// Whether the bytes differ from those of the log.
+    /// Whether the bytes differ from those of the log. A file of format 4 is always written anew.
     pub changed: bool,
+    /// Whether a mark ends the log that replaces it.
+    pub ended: bool,
 }
 
 /// Returns what replaces this log when a server resumes after a recovery that found this cutoff. All logs are replaced
-/// before the server appends again. The records are not copied.
+/// before the server appends again. A file of format 4 is replaced by one with this salt, which no other file has. Of
+/// other formats the records are not copied.
 /// Err: the one fault of the bytes, or `Memory` if an allocation failed.
 ///
 /// ```
-/// let new = resume_log(alloc, &bytes, report.cutoff)?;
-/// file.write_all(&new.header)?;
+/// let new = resume_log(alloc, &bytes, report.cutoff, salt)?;
+/// file.write_all(&new.front)?;
 /// file.write_all(new.records)?;
 /// file.write_all(&new.marks)?;
 /// ```
-pub fn resume_log(alloc: Global, bytes: &[u8], cutoff: u64) -> Result<ResumedLog<'_>, FeedFault>
-    ensures log { IfOk result (λ new. IsResumed cutoff bytes.now (new.header.items ++ (new.records.now ++ new.marks.items))) }
+pub fn resume_log(
+    alloc: Global,
+    bytes: &[u8],
+    cutoff: u64,
+    salt: u64,
+) -> Result<ResumedLog<'_>, FeedFault>
+    ensures log { IfOk result (λ new. Replaces cutoff salt bytes.now (new.front.items ++ (new.records.now ++ new.marks.items))) }
     ensures dropped { IfOk result (λ new. (log : LogReading) → IsReading bytes.now log →
         new.dropped ≡ count_of (updates_past cutoff log.records)) }
-    ensures changed { IfOk result (λ new.
-        IsTrue new.changed ↔ (new.header.items ++ (new.records.now ++ new.marks.items) ≢ bytes.now)) }
-    ensures fault { IfErr result (IsTextAnswered bytes.now) }
+    ensures changed { IfOk result (λ new. IsTrue new.changed ↔
+        (IsSealed bytes.now ⊎ (new.front.items ++ (new.records.now ++ new.marks.items) ≢ bytes.now))) }
+    ensures ended { IfOk result (λ new. (log : LogReading) → IsReading bytes.now log →
+        new.ended ≡ is_ended (resumed cutoff log).records) }
+    ensures fault { IfErr result (IsAnswered bytes.now) }
 {
-    let Some((head, rest)) = header_at(bytes) else {
+    let Some(opened) = open_file(alloc, bytes)? else {
+        return resume_text(alloc, bytes, cutoff);
+    };
+    if opened.end == FileEnd::Damaged {
+        return Err(damage_of(alloc, bytes));
+    }
+    let text = resume_text(alloc, &opened.text, cutoff)?;
+    let from = opened.header.from.min(cutoff);
+    let header = Header {
+        salt,
+        from,
+        ..opened.header
+    };
+    Ok(ResumedLog {
+        front: seal_log(alloc, header, text.records, &text.marks)?,
+        records: &[],
+        marks: Vec::new(alloc),
+        dropped: text.dropped,
+        changed: true,
+        ended: text.ended,
+    })
+}
+
+/// Returns what replaces the log of this text.
+/// Err: the one fault of the text, or `Memory` if an allocation failed.
+fn resume_text(alloc: Global, text: &[u8], cutoff: u64) -> Result<ResumedLog<'_>, FeedFault>
+    ensures log { IfOk result (λ new. IsResumed cutoff text.now (new.front.items ++ (new.records.now ++ new.marks.items))) }
+    ensures header { IfOk result (λ new. (head : HeadValue) (rest : List ℕ) → IsHead head → text.now ≡ head_bytes head ++ rest →
+        new.front.items ≡ head_bytes (record head { from = min head.from cutoff })) }
+    ensures dropped { IfOk result (λ new. (log : LogReading) → IsReading text.now log →
+        new.dropped ≡ count_of (updates_past cutoff log.records)) }
+    ensures changed { IfOk result (λ new.
+        IsTrue new.changed ↔ (new.front.items ++ (new.records.now ++ new.marks.items) ≢ text.now)) }
+    ensures ended { IfOk result (λ new. (log : LogReading) → IsReading text.now log →
+        new.ended ≡ is_ended (resumed cutoff log).records) }
+    ensures fault { IfErr result (IsTextAnswered text.now) }
+{
+    let Some((head, rest)) = header_at(text) else {
         return Err(FeedFault::Header);
     };
     let split = split_records(head.format, cutoff, rest)?;
     let from = head.from.min(cutoff);
-    let header = encode_head(alloc, Head { from, ..head })?;
+    let front = encode_head(alloc, Head { from, ..head })?;
     let marks = encode_marks(alloc, cutoff, split.ended)?;
     let (records, late) = rest.split_at(split.kept);
     let changed = from != head.from || late != marks.as_slice();
     Ok(ResumedLog {
-        header,
+        front,
         records,
         marks,
         dropped: split.dropped,
         changed,
+        ended: split.ended || cutoff == u64::MAX,
     })
+}
+
+/// Returns the file of format 4 with this header, and these records and marks in blocks. Err: out of memory.
+fn seal_log(alloc: Global, header: Header, records: &[u8], marks: &[u8]) -> Result<Vec<u8>, Memory>
+    requires { IsHeader header }
+    ensures { IfOk result (λ file. (bodies : List (List ℕ)) × IsFile file.items header bodies [] × (joined bodies ≡ records.now ++ marks.now)) }
+{
+    let mark = header.mark();
+    let mut file = header.bytes(alloc)?;
+    append_blocks(mark, records, &mut file)?;
+    append_blocks(mark, marks, &mut file)?;
+    Ok(file)
+}
+
+/// Returns the fault of a damaged file of format 4, or `Memory` if an allocation failed.
+fn damage_of(alloc: Global, bytes: &[u8]) -> FeedFault
+    requires { (text : List ℕ) × IsDamagedAfter bytes.now text }
+    ensures { IsAnswered bytes.now result }
+{
+    let front = match log_front(alloc, bytes) {
+        Ok(front) => front,
+        Err(fault) => return fault,
+    };
+    let Rest::Faulty(what) = front.rest else {
+        unreachable!();
+    };
+    FeedFault::Record {
+        nth: front.count,
+        what,
+    }
 }
 
 /// The records of a log, split at a cutoff.

@@ -50,7 +50,7 @@ pub enum What {
     /// The timestamp is below that of the record before it.
     #[error("clock")]
     Clock,
-    /// A block of a file of format 4 is damaged: its checksum is not that of its bytes.
+    /// A file of format 4 has something damaged, whose checksum is wrong, and goes on after it.
     #[error("checksum")]
     Checksum,
 }

@@ -1,5 +1,5 @@
 //! Changes as a server gives them: they are lent for the call, and are checked and encoded where they stand.
-ghost use Rattle.std.specs.Prelude.{◌≡◌, ◌<◌, ◌^◌, ◌↔◌, ◌∷◌, ◌++◌, length, map, IsTrue, OnOk, OnErr};
+ghost use Rattle.std.specs.Prelude.{◌≡◌, ◌<◌, ◌≤◌, ◌^◌, ◌↔◌, ◌∷◌, ◌++◌, length, map, IsTrue, OnOk, OnErr, vec_capacity};
 ghost use Rattle.byteorder.specs.Endian.{big_bytes};
 ghost use Rattle.mt_words.specs.Limits.{limits_of, widest};
 ghost use Rattle.mt_words.specs.Words.{AreColumns, AreNumbers};
@@ -54,6 +54,7 @@ pub fn encode_given(timestamp: u64, given: GivenChange<'_>, out: &mut Vec<u8>) -
     requires { IsLoggedChange widest (change_of given) }
     ensures ok { OnOk result (out.new.items ≡ out.old.items ++ spelling (changed timestamp (change_of given.entry))) }
     ensures err { OnErr result (out.new.items ≡ out.old.items) }
+    ensures room { vec_capacity out.old ≤ vec_capacity out.new }
 {
     let length = (9 + given.length()) as u32;
     out.reserve(4 + length as usize + 4)?;

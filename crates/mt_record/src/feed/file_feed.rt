@@ -7,7 +7,7 @@ ghost use Rattle.mt_record.specs.declared.read.FeedFault.TheVariants as faults;
 ghost use Rattle.mt_record.specs.declared.feed.file_feed.FileKind.TheVariants as kinds;
 ghost use Rattle.mt_record.specs.Unsealing.{IsPlain, ShowsNoSeal};
 ghost use Rattle.mt_record.specs.LogFeeding.{IsTextFed, IsLogFed, IsHeaderShown, IsAllRead, fed_log};
-ghost use Rattle.mt_record.specs.Telling.{Tells, IsToldBy};
+ghost use Rattle.mt_record.specs.Steps.Telling.{Tells, IsToldBy};
 
 use crate::feed::blocks::Blocks;
 use crate::feed::head::{BLOCKS, Head, SEGMENT_HEADER_BYTES, Segment, is_sealed};

@@ -21,8 +21,8 @@ use std::marker::Model;
 use std::mem;
 
 /// A reader of a log that comes in chunks of any size. It collects the records in an `R`. It holds back only the
-/// beginning of the header or of one record. A record that lies completely in one chunk is copied straight from that
-/// chunk. The work is linear in the number of bytes, however they are cut.
+/// beginning of the header or of one record, and in a file of format 4 that of one block. A record that lies completely
+/// in one chunk is copied straight from that chunk. The work is linear in the number of bytes, however they are cut.
 #[derive(Drop)]
 pub struct LogFeed<R: Records = Vec<Record>> {
     file: FileFeed<R>,

@@ -6,6 +6,8 @@ ghost use Rattle.mt_record.specs.Answered.{IsPartAnswered};
 ghost use Rattle.mt_record.specs.PartFeeding.{IsPartFed, ShowsNoPartFault, IsPartShown};
 
 use crate::feed::Feed;
+use crate::feed::file_feed::FileKind;
+use crate::feed::part_file::PartFile;
 use crate::feed::part_items::PartItems;
 use crate::kept::Entries;
 use crate::kept::part::KeptEntries;
@@ -15,20 +17,21 @@ use std::alloc::Global;
 use std::marker::Model;
 
 /// A reader of a part of a checkpoint that comes in chunks of any size. It collects the entries in an `E`. It holds
-/// back only the beginning of the header, of one entry or of the footer. An entry that lies completely in one chunk is
-/// copied straight from that chunk. The work is linear in the number of bytes, however they are cut.
+/// back only the beginning of the header, of one entry or of the footer, and in a file of format 4 that of one block.
+/// An entry that lies completely in one chunk is copied straight from that chunk. The work is linear in the number of
+/// bytes, however they are cut.
 #[derive(Drop)]
 pub struct PartFeed<E: Entries = Vec<Entry>> {
-    feed: Feed<PartItems<E>>,
+    feed: Feed<PartFile<E>>,
 }
 
 impl<E: Entries> Model for PartFeed<E> {
     ghost use Rattle.mt_record.specs.Feeding.{fed_by};
-    ghost use Rattle.mt_record.specs.PartFeeding.{part_so_far, FedPart};
+    ghost use Rattle.mt_record.specs.PartFeeding.{part_file, FedPart};
 
     ghost Value = { FedPart };
 
-    ghost view = { λ f. fed_by (part_so_far E.listed) f.feed };
+    ghost view = { λ f. fed_by (part_file E.listed) f.feed };
 }
 
 impl PartFeed {
@@ -63,8 +66,19 @@ impl<E: Entries> PartFeed<E> {
             entries,
             end: None,
         };
+        let held = Vec::new(alloc);
+        let text = Feed {
+            items,
+            held,
+            fault: None,
+        };
+        let file = PartFile {
+            kind: FileKind::Untold,
+            mark: 0,
+            text,
+        };
         PartFeed {
-            feed: Feed::new(alloc, items),
+            feed: Feed::new(alloc, file),
         }
     }
 
@@ -86,8 +100,9 @@ impl<E: Entries> PartFeed<E> {
     }
 
     /// Returns what the bytes say as a part.
-    /// Err: the one fault of the bytes, or `Memory` if an allocation failed. A part that is cut short is a fault too.
-    #[tactic(auto, using(crate::proofs::OnePartFault::no_head_read))]
+    /// Err: the one fault of the bytes, or `Memory` if an allocation failed. A part that is cut short is a fault too, as
+    /// is one of format 4 whose last block is not whole.
+    #[tactic(auto, using(crate::proofs::PartFeeds::no_head_fed))]
     pub fn finish(self) -> Result<PartText<E>, PartFault>
         ensures part { (bytes : List ℕ) → IsPartFed self bytes → IfOk result (IsPartText E.listed bytes) }
         ensures fault { (bytes : List ℕ) → IsPartFed self bytes → IfErr result (IsPartAnswered bytes) }
@@ -96,18 +111,22 @@ impl<E: Entries> PartFeed<E> {
         if let Some(fault) = self.feed.fault {
             return Err(fault);
         }
-        let Some(head) = self.feed.items.head else {
+        let items = &self.feed.items.text.items;
+        let Some(head) = items.head else {
             return Err(PartFault::Header);
         };
-        let Some(end) = self.feed.items.end else {
-            return Err(self.feed.items.broken(head));
+        let Some(end) = items.end else {
+            return Err(items.broken(head));
         };
+        if !self.feed.held.is_empty() {
+            return Err(items.broken(head));
+        }
         Ok(PartText {
             number: head.number,
             begin: head.begin,
             part: head.part,
             parts: head.parts,
-            entries: self.feed.items.entries,
+            entries: self.feed.items.text.items.entries,
             end,
         })
     }

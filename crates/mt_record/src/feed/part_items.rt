@@ -8,7 +8,7 @@
 ghost use Rattle.std.specs.Prelude.{◌≡◌, ◌≢◌, ◌++◌, List, ℕ, None, Some, length};
 ghost use Rattle.byteorder.specs.Endian.{big_bytes};
 ghost use Rattle.mt_record.specs.declared.part_text.PartFault.TheVariants.{Broken};
-ghost use Rattle.mt_record.specs.PartFeeding.{part_so_far, HoldsPart, IsPartLeft, IsPartFaulty, StepsPart};
+ghost use Rattle.mt_record.specs.PartFeeding.{part_so_far, broken_after, HoldsPart, IsPartLeft, IsPartFaulty, StepsPart};
 
 use crate::body::fields::{u32_at, u64_at};
 use crate::feed::frame::{frame_wanted, next_entry};
@@ -144,6 +144,16 @@ impl<E: Entries> PartItems<E> {
         PartFault::Broken {
             number: head.number,
             entries: self.entries.count() as u64,
+        }
+    }
+
+    /// Returns the fault of a file that is broken after what was read.
+    pub fn broken_here(&self) -> PartFault
+        ensures { result ≡ broken_after (part_so_far E.listed self.now) }
+    {
+        match self.head {
+            Some(head) => self.broken(head),
+            None => PartFault::Header,
         }
     }
 }

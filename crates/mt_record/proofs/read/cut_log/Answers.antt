@@ -1,54 +1,26 @@
-use Rattle.std.proofs.Common.{◌≡◌, ◌≤◌, ◌++◌, List, ℕ, length, take, refl, sym, subst, arith}
-use Rattle.std.proofs.lemmas.List.{take_all, length-take-le}
-use Rattle.std.proofs.lemmas.Grind.{common_steps}
-use Rattle.mt_record.specs.LogFeeding.{IsLogFed}
+use Rattle.std.proofs.Common.{◌≡◌, List, ℕ, sym, arith}
+use Rattle.std.proofs.lemmas.List.{length-take-le}
 use Rattle.std.proofs.lemmas.Result.{err_from_is_err_and}
-use Rattle.mt_record.specs.LogFaults.{IsLogFault}
-use Rattle.mt_record.specs.LogFronts.{IsFrontOf}
 use Rattle.mt_record.proofs.Opened.{text_front, text_fault_of}
-use Rattle.mt_record.proofs.LogFeeds.{front_bytes, chunk_read}
+use Rattle.mt_record.proofs.LogFeeds.{front_bytes}
 use Rattle.mt_record.proofs.read.cut_log.Goals as goal
-
-pub loop-read-preserved : goal.loop-read-preserved
-loop-read-preserved c =
-    let bytes = c.args.bytes.now in
-    let I = c.loop-read.invariant in
-    let end = c.min-end.result in
-    let within : end ≤ length bytes = grind (arith, common_steps, c.min-end.ensures) in
-    let le : c.loop-read.read ≤ end = grind (arith, common_steps, c.min-end.ensures, c.saturating_add.ensures, I.within) in
-    record {
-      within = within;
-      taken = I.taken ++ c.feed.new.self.so_far.ready;
-      fed = c.drop_kept.ensures.fed (take end bytes) I.taken
-          (subst (λ (b : List ℕ). IsLogFed c.feed.new.self b I.taken) (sym (chunk_read bytes _ c.loop-read.read end le within refl)) (c.feed.ensures.fed (take c.loop-read.read bytes) I.taken I.fed));
-    }
 
 pub slice_bounds-result-end : goal.slice_bounds-result-end
 slice_bounds-result-end c =
     let bytes = c.args.bytes.now in
-    let I = c.loop-read.invariant in
-    let front = c.in_ok-front.front in
-    let all : take c.loop-read.read bytes ≡ bytes = take_all c.loop-read.read bytes (omega (arith, c.loop-read-test.false)) in
-    let of_file = subst (λ (b : List ℕ). IsFrontOf b (I.taken ++ c.loop-read.feed.so_far.ready) front) all (c.in_ok-front.ensures.front (take c.loop-read.read bytes) I.taken I.fed) in
-    let is = text_front bytes (I.taken ++ c.loop-read.feed.so_far.ready) front (rw c.if-is_sealed.false at c.is_sealed.ensures) of_file in
-    let cut = front_bytes bytes (I.taken ++ c.loop-read.feed.so_far.ready) front (omega (arith, c.loop-read-test.false, c.loop-read.auto.read-fits)) is in
-    sym (length-take-le front.bytes bytes cut.0)
+    let is = c.in_ok-front.ensures.front in
+    let of_text = text_front bytes is.0 c.in_ok-front.front (rw c.if-is_sealed.false at c.is_sealed.ensures) is.1 in
+    sym (length-take-le c.in_ok-front.front.bytes bytes (front_bytes bytes is.0 c.in_ok-front.front (omega arith) of_text).0)
 
 pub returns-clause-log : goal.returns-clause-log
 returns-clause-log c =
     let bytes = c.args.bytes.now in
-    let I = c.loop-read.invariant in
-    let front = c.in_ok-front.front in
-    let all : take c.loop-read.read bytes ≡ bytes = take_all c.loop-read.read bytes (omega (arith, c.loop-read-test.false)) in
-    let of_file = subst (λ (b : List ℕ). IsFrontOf b (I.taken ++ c.loop-read.feed.so_far.ready) front) all (c.in_ok-front.ensures.front (take c.loop-read.read bytes) I.taken I.fed) in
-    let is = text_front bytes (I.taken ++ c.loop-read.feed.so_far.ready) front (rw c.if-is_sealed.false at c.is_sealed.ensures) of_file in
-    let cut = front_bytes bytes (I.taken ++ c.loop-read.feed.so_far.ready) front (omega (arith, c.loop-read-test.false, c.loop-read.auto.read-fits)) is in
-    (I.taken ++ c.loop-read.feed.so_far.ready, is, cut.1)
+    let is = c.in_ok-front.ensures.front in
+    let of_text = text_front bytes is.0 c.in_ok-front.front (rw c.if-is_sealed.false at c.is_sealed.ensures) is.1 in
+    (is.0, of_text, (front_bytes bytes is.0 c.in_ok-front.front (omega arith) of_text).1)
 
 pub returns-in_err-front-clause-fault : goal.returns-in_err-front-clause-fault
 returns-in_err-front-clause-fault c =
     let bytes = c.args.bytes.now in
-    let I = c.loop-read.invariant in
-    let all : take c.loop-read.read bytes ≡ bytes = take_all c.loop-read.read bytes (omega (arith, c.loop-read-test.false)) in
     let p = err_from_is_err_and c.from_residual.result c.from_residual.ensures.1 in
-    rw (p.1, p.2) (λ other. text_fault_of bytes c.in_err-front.field-0.0 (rw c.if-is_sealed.false at c.is_sealed.ensures) (subst (λ (b : List ℕ). IsLogFault b c.in_err-front.field-0.0) all (c.in_err-front.ensures.fault (take c.loop-read.read bytes) I.taken I.fed other)))
+    rw (p.1, p.2) (λ other. text_fault_of bytes c.in_err-front.field-0.0 (rw c.if-is_sealed.false at c.is_sealed.ensures) (c.in_err-front.ensures.fault other))

@@ -1,54 +1,71 @@
-use Rattle.std.proofs.Common.{◌≡◌, ◌≢◌, ◌↔◌, ◌∙◌, ◌^◌, ◌<◌, ◌++◌, inl, inr, List, ℕ, ap, sym, arith}
-use Rattle.std.specs.Prelude.{IsTrue}
-use Rattle.std.specs.Cmp.Lexicographic.{same_text}
-use Rattle.std.proofs.lemmas.Bool.{cases_Bool, not-false}
-use Rattle.std.proofs.lemmas.List.{take-append-drop}
-use Rattle.std.proofs.lemmas.Grind.{common_steps}
-use Rattle.mt_record.specs.Heads.{head_bytes}
-use Rattle.mt_record.specs.Logs.{LogReading, count_of}
-use Rattle.mt_record.specs.Resuming.{updates_past}
-use Rattle.mt_record.proofs.OneReading.{one_reading_of}
-use Rattle.mt_record.proofs.Splits.{split_log, kept_bytes, split_resumed, unchanged, as_before}
+use Rattle.std.proofs.Common.{◌≡◌, ◌≢◌, ◌∙◌, ◌++◌, ◌⊎◌, inl, inr, [], List, ℕ, true, false, refl, sym, ap, subst}
+use Rattle.std.proofs.lemmas.Bool.{false≢true}
+use Rattle.std.proofs.lemmas.List.{append-nil}
+use Rattle.std.proofs.lemmas.Result.{IfOk-weaker, err_from_is_err_and}
+use Rattle.mt_record.specs.declared.resume.ResumedLog.{ResumedLog}
+use Rattle.mt_record.specs.declared.open.FileEnd.TheVariants.{Damaged}
+use Rattle.mt_record.specs.Opening.{IsSealed, text_head, joined}
+use Rattle.mt_record.specs.Logs.{LogReading, IsReading, count_of}
+use Rattle.mt_record.specs.Resuming.{updates_past, is_ended, resumed, IsSealedAgain}
+use Rattle.mt_record.specs.LogFaults.{IsTextFault}
+use Rattle.mt_record.proofs.FileFeeds.{text_is_head}
+use Rattle.mt_record.proofs.Opened.{begins_sealed}
+use Rattle.mt_record.proofs.SealedLogs.{plain_fault, sealed_fault, opened_text, text_of_file, resumed_fits, sealed_again}
 use Rattle.mt_record.proofs.resume.resume_log.Goals as goal
-use Rattle.mt_record.proofs.resume.resume_log.Goals.{then-from-head, else-from-head}
 
-pub split_at-requires : goal.split_at-requires
-split_at-requires c = (kept_bytes c.in-Some.head c.args.cutoff c.in-Some.rest.now c.in_ok-split.split c.in_ok-split.ensures.split).0
+pub returns-in_default-clause-changed : goal.returns-in_default-clause-changed
+returns-in_default-clause-changed c =
+    let plain : IsSealed c.args.bytes.now → ⊥ = rw c.in_default.is at c.in_ok-opened.ensures.opened in
+    IfOk-weaker c.resume_text.result _ _
+    (λ new told. (λ t. inr (told.0 t), λ either. elim either [ inl sealed ↦ absurd (plain sealed) | inr differs ↦ told.1 differs ]))
+    c.resume_text.ensures.changed
+
+pub returns-in_err-text-clause-fault : goal.returns-in_err-text-clause-fault
+returns-in_err-text-clause-fault c =
+    let p = err_from_is_err_and c.from_residual-in_err-text.result c.from_residual-in_err-text.ensures.1 in
+    let fault = c.in_err-text.field-0.0 in
+    let opened = c.in-Some.opened in
+    let is = rw c.in-Some.is at c.in_ok-opened.ensures.opened in
+    rw (p.1, p.2) (λ other. sealed_fault c.args.bytes.now opened.header is.bodies is.rest fault is.begins
+    (subst (λ (text : List ℕ). IsTextFault text fault) (c.deref.ensures.value ∙ is.is_text) (c.in_err-text.ensures.fault other)))
+
+pub seal_log-requires : goal.seal_log-requires
+seal_log-requires c =
+    let header = c.in-Some.opened.header in
+    let is = rw c.in-Some.is at c.in_ok-opened.ensures.opened in
+    resumed_fits c.args.cutoff c.args.salt header (record header { salt = c.args.salt; from = c.min-from.result }) is.begins.is_header c.ranges.cutoff.fits c.ranges.salt.fits
+    (λ i. record header { salt = c.args.salt; from = c.min-from.ensures i })
 
 pub returns-clause-log : goal.returns-clause-log
 returns-clause-log c =
-    let head = c.in-Some.head in
-    let is = c.in_ok-split.ensures.split in
-    let header = c.in_ok-header.ensures ∙ ap (λ (n : ℕ). head_bytes (record head { from = n })) c.min-from.ensures in
-    split_resumed c.args.bytes.now c.in-Some.rest.now c.in_ok-header.header.items c.split_at.result.0.now c.in_ok-marks.marks.items head c.args.cutoff c.in_ok-split.split
-    c.in-Some.ensures.found.0 c.in-Some.ensures.found.1 is header c.split_at.ensures.front (c.in_ok-marks.ensures is.records is.is_split.ended)
+    let bytes = c.args.bytes.now in
+    let opened = c.in-Some.opened in
+    let header = opened.header in
+    let new = c.in_ok-text.text in
+    let file = c.in_ok-seal_log.field-0.items in
+    let is = rw c.in-Some.is at c.in_ok-opened.ensures.opened in
+    let sealed = c.in_ok-seal_log.ensures in
+    let whole = λ (e : opened.end ≡ Damaged). false≢true (sym c.if-eq.false ∙ (rw e at c.eq.ensures)) in
+    let begins = c.in_ok-text.ensures.header (text_head header) (joined is.bodies) (text_is_head header is.begins.is_header) (c.deref.ensures.value ∙ is.is_text) in
+    let again = sealed_again bytes opened c.args.cutoff c.args.salt c.deref.result.now new.front.items new.records.now new.marks.items file (record header { salt = c.args.salt; from = c.min-from.result }) sealed.0 is whole
+    c.deref.ensures.value c.in_ok-text.ensures.log begins (λ i. record header { salt = c.args.salt; from = c.min-from.ensures i }) sealed.1
+    (sealed.2 ∙ ap (λ (l : List ℕ). new.records.now ++ l) c.deref-2.ensures.value) in
+    inr (subst (λ (l : List ℕ). IsSealedAgain c.args.cutoff c.args.salt bytes l) (sym (append-nil file) ∙ ap (λ (l : List ℕ). file ++ l) (sym c.new.ensures.items)) again)
 
 pub returns-clause-dropped : goal.returns-clause-dropped
-returns-clause-dropped c log is_log =
-    let is = c.in_ok-split.ensures.split in
-    let reading = split_log c.args.bytes.now c.in-Some.rest.now c.in-Some.head c.args.cutoff c.in_ok-split.split c.in-Some.ensures.found.0 c.in-Some.ensures.found.1 is in
-    is.is_split.dropped ∙ ap (λ (l : LogReading). count_of (updates_past c.args.cutoff l.records)) (one_reading_of c.args.bytes.now _ log reading is_log)
+returns-clause-dropped c log reading =
+    let opened = c.in-Some.opened in
+    let is = rw c.in-Some.is at c.in_ok-opened.ensures.opened in
+    let whole = λ (e : opened.end ≡ Damaged). false≢true (sym c.if-eq.false ∙ (rw e at c.eq.ensures)) in
+    let said = text_of_file c.args.bytes.now opened.text.items _ log (opened_text c.args.bytes.now opened is whole) reading in
+    let text : LogReading = record log { torn = said.0 } in
+    c.in_ok-text.ensures.dropped text (subst (λ (l : List ℕ). IsReading l text) (sym c.deref.ensures.value) said.1)
 
-pub returns-clause-changed : goal.returns-clause-changed
-returns-clause-changed c =
-    let head = c.in-Some.head in
-    let kept = c.split_at.result.0.now in
-    let late = c.split_at.result.1.now in
-    let marks = c.in_ok-marks.marks.items in
-    let rest = c.in-Some.rest.now in
-    let header = c.in_ok-header.header.items in
-    let begins = c.in_ok-header.ensures in
-    let whole : c.args.bytes.now ≡ head_bytes head ++ (kept ++ late) = c.in-Some.ensures.found.1 ∙ ap (λ (x : List ℕ). head_bytes head ++ x) (sym (take-append-drop c.in_ok-split.split.kept rest) ∙ λ i. sym c.split_at.ensures.front i ++ sym c.split_at.ensures.back i) in
-    let fits : c.min-from.result < 2 ^ 64 = omega (arith, c.min-from.ensures, c.in-Some.ensures.found.0.from) in
-    let told = λ (e : header ++ (kept ++ marks) ≡ c.args.bytes.now). unchanged header kept marks late head c.min-from.result c.in-Some.ensures.found.0 fits begins (e ∙ whole) in
-    let back = λ (same : c.min-from.result ≡ head.from) (are : late ≡ marks). as_before header kept marks late head c.min-from.result begins same are ∙ sym whole in
-    elim c.if-from-head.branch as (λ _. IsTrue c.if-from-head.changed ↔ (header ++ (kept ++ marks) ≢ c.args.bytes.now)) [
-      | then-from-head w ↦ (λ t e. grind (arith, common_steps, (told e).0, w.if-from-head), λ n. grind (arith, common_steps, w.changed-is))
-      | else-from-head w ↦ (
-        λ t e. grind (arith, common_steps, (told e).1, w.ne-changed.ensures, w.as_slice.ensures, w.changed-is, t),
-        λ n. elim (cases_Bool c.if-from-head.changed) as (λ _. IsTrue c.if-from-head.changed) [
-          | inl t ↦ t
-          | inr f ↦ absurd (n (back (omega (arith, w.if-from-head.false)) (same_text late w.as_slice.result.now (sym (not-false _ (sym w.ne-changed.ensures ∙ sym w.changed-is ∙ f))) ∙ w.as_slice.ensures.value)))
-        ],
-      )
-    ]
+pub returns-clause-ended : goal.returns-clause-ended
+returns-clause-ended c log reading =
+    let opened = c.in-Some.opened in
+    let is = rw c.in-Some.is at c.in_ok-opened.ensures.opened in
+    let whole = λ (e : opened.end ≡ Damaged). false≢true (sym c.if-eq.false ∙ (rw e at c.eq.ensures)) in
+    let said = text_of_file c.args.bytes.now opened.text.items _ log (opened_text c.args.bytes.now opened is whole) reading in
+    let text : LogReading = record log { torn = said.0 } in
+    c.in_ok-text.ensures.ended text (subst (λ (l : List ℕ). IsReading l text) (sym c.deref.ensures.value) said.1)

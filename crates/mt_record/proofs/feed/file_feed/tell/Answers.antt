@@ -1,5 +1,3 @@
-use Rattle.std.proofs.Common.{inl, sym, ap, ◌∙◌}
-use Rattle.std.proofs.lemmas.Result.{err_from_is_err_and}
 use Rattle.mt_record.proofs.Tellings.{tells, tells_no_header}
 use Rattle.mt_record.proofs.feed.file_feed.tell.Goals as goal
 

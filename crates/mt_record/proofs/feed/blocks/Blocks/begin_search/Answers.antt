@@ -1,4 +1,4 @@
-use Rattle.std.proofs.Common.{◌-◌, length, take, drop, true, inl, inr, sym, refl}
+use Rattle.std.proofs.Common.{◌-◌, length, take, drop, true, inr, sym, refl}
 use Rattle.std.proofs.lemmas.List.{append-nil}
 use Rattle.std.proofs.lemmas.Result.{err_from_is_err_and}
 use Rattle.mt_record.specs.Feeding.{IsFedBy}

@@ -1,5 +1,4 @@
-use Rattle.std.proofs.Common.{◌≡◌, ◌++◌, ◌∙◌, List, ℕ, sym, ap, subst}
-use Rattle.mt_block.specs.Blocks.{header_bytes}
+use Rattle.std.proofs.Common.{◌++◌, ◌∙◌, List, ℕ, sym, ap, subst}
 use Rattle.mt_record.specs.declared.feed.file_feed.FileKind.TheVariants as kinds
 use Rattle.mt_record.specs.LogFeeding.{fed_log, log_so_far, IsTextFed, IsLogFed}
 use Rattle.mt_record.proofs.FileFeeds.{log_fed_on}

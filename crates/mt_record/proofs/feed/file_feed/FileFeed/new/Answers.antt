@@ -1,4 +1,4 @@
-use Rattle.std.proofs.Common.{◌≡◌, [], inl, refl, sym, arith}
+use Rattle.std.proofs.Common.{[], inl, refl, sym, arith}
 use Rattle.std.proofs.lemmas.Option.{none-some}
 use Rattle.std.specs.Prelude.{codes}
 use Rattle.mt_record.proofs.LogFeeds.{nothing_read}

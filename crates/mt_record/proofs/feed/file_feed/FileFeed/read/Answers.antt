@@ -1,4 +1,4 @@
-use Rattle.std.proofs.Common.{◌++◌, ◌∙◌, ap, append_assoc}
+use Rattle.std.proofs.Common.{◌++◌}
 use Rattle.mt_block.specs.Blocks.{header_bytes, mark_of}
 use Rattle.mt_record.specs.Heads.{head_bytes}
 use Rattle.mt_record.specs.Opening.{text_head}

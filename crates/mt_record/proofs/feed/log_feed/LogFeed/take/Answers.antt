@@ -1,4 +1,4 @@
-use Rattle.std.proofs.Common.{◌≡◌, [], refl, rules}
+use Rattle.std.proofs.Common.{◌≡◌, [], rules}
 use Rattle.mt_record.specs.LogFeeding.{fed_log}
 use Rattle.mt_record.proofs.FileFeeds.{taken_as}
 use Rattle.mt_record.proofs.feed.log_feed.LogFeed.take.Goals as goal
