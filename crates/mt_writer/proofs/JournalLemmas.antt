@@ -1,11 +1,15 @@
 -- Files of journals, and what each call of a writer does to them.
-use Rattle.std.proofs.Common.{◌≡◌, inl, inr, ℕ, ◌+◌, ◌-◌, ◌^◌, ◌<◌, ◌≤◌, List, [], ◌∷◌, ◌++◌, length, map, min, refl, sym, ap, ◌∙◌, subst, append_assoc, arith}
+use Rattle.std.proofs.Common.{◌≡◌, Option, Some, None, inl, inr, ℕ, ◌+◌, ◌-◌, ◌^◌, ◌<◌, ◌≤◌, List, [], ◌∷◌, ◌++◌, length, map, min, refl, sym, ap, ◌∙◌, subst, append_assoc, arith}
 use Rattle.std.specs.Prelude.{true, false, ◌↔◌, Contains}
 use Rattle.std.specs.List.{flat_map}
 use Rattle.std.proofs.lemmas.List.{append-nil, length-append}
 use Rattle.std.proofs.lemmas.List.Concat.{flat_map-append}
 use Rattle.std.proofs.lemmas.List.Elements.{Contains-append_left}
 use Rattle.mt_words.specs.declared.limits.Format.{Format}
+use Rattle.mt_words.specs.Built.{mark_of}
+use Rattle.mt_block.specs.declared.header.Header.{Header}
+use Rattle.mt_block.specs.Blocks.{mark_of as mark_in}
+use Rattle.mt_record.specs.Opening.{text_head}
 use Rattle.mt_words.specs.declared.limits.Limits.{Limits}
 use Rattle.mt_words.specs.Limits.{limits_of, widest}
 use Rattle.mt_words.specs.Changes.{Logged, IsLawful}
@@ -17,7 +21,7 @@ use Rattle.mt_record.specs.Spelling.{body, spelling}
 use Rattle.mt_record.specs.Logs.{AreRecords, latest, log_bytes, LogReading, IsReading, times_of}
 use Rattle.mt_record.specs.declared.read.TheConstants.{MOST_BYTES}
 use Rattle.mt_record.specs.declared.front.LogFront.{LogFront}
-use Rattle.mt_record.specs.LogFronts.{IsTextRest, IsTextFrontOf}
+use Rattle.mt_record.specs.LogFronts.{IsFrontOf}
 use Rattle.mt_record.proofs.Lawful.{lawful_length}
 use Rattle.mt_record.proofs.Records.{records_push, latest_push}
 use Rattle.mt_record.proofs.Opened.{whole_reading}
@@ -107,14 +111,10 @@ reached w j keeps time below = reaches (λ r. time < r.timestamp) w j keeps (λ 
 
 -- ---- steps
 
--- there is room for one more record
-pub room_left : (size : ℕ) (old new : List ℕ) (r : Logged) → IsLawful widest r → size + LONGEST_RECORD ≤ MOST_BYTES → new ≡ old ++ spelling r → size + length new ≤ MOST_BYTES + length old
-room_left size old new r lawful room is = omega (arith, room, spelled_length r lawful, ap length is, length-append old (spelling r))
-
 -- one more record
-pub held_more : (old new : Writer) (j : Journal) (r : Logged) (bytes : List ℕ) (before : ℕ) → Keeps old j → IsLawful widest r → old.last ≤ r.timestamp → bytes ≡ old.buffer ++ spelling r
-    → before ≡ length old.buffer → new ≡ record old { buffer = bytes; last = r.timestamp; size = old.size + (length bytes - before) } → Keeps new (holding j r)
-held_more old new j r bytes before keeps lawful rises spelled counted is =
+pub held_more : (old new : Writer) (j : Journal) (r : Logged) (mark : Option ℕ) (bytes : List ℕ) (size : ℕ) → Keeps old j → IsLawful widest r → old.last ≤ r.timestamp
+    → bytes ≡ old.buffer ++ spelling r → size ≡ old.size + length (spelling r) → new ≡ record old { mark = mark; buffer = bytes; last = r.timestamp; size = size } → Keeps new (holding j r)
+held_more old new j r mark bytes size keeps lawful rises spelled counted is =
     let more : records_of (holding j r) ≡ records_of j ++ r ∷ [] = sym (append_assoc (handed_out j) j.held (r ∷ [])) in
     let long = ap (λ (rs : List Logged). length (log_bytes j.head rs)) more ∙ ap length (more_bytes j.head (records_of j) (r ∷ [])) ∙ length-append (log_bytes j.head (records_of j)) (flat_map spelling (r ∷ [])) in
     let one : flat_map spelling (r ∷ []) ≡ spelling r = append-nil (spelling r) in
@@ -128,7 +128,7 @@ held_more old new j r bytes before keeps lawful rises spelled counted is =
       reach = keeps.reach;
       some = keeps.some;
       claim = keeps.claim;
-      size = omega (arith, counted, keeps.size, long, ap length one, ap length spelled, length-append old.buffer (spelling r));
+      size = omega (arith, counted, keeps.size, long, ap length one);
       taken_size = keeps.taken_size;
       synced_size = keeps.synced_size;
       segment = keeps.segment;
@@ -205,24 +205,32 @@ synced_all old new j keeps is =
       segment = keeps.segment;
     })
 
+-- the text of a new file has 37 bytes
+new_size : (header : Header) (time : ℕ) → length (log_bytes (text_head header) (mark_of time ∷ [])) ≡ 37
+new_size header time =
+    length-append (head_bytes (text_head header)) (flat_map spelling (mark_of time ∷ []))
+
 -- a new file
-pub begun_keeps : (new : NewFile) (w : Writer) (head : Head) → Begins new head → w ≡ record { buffer = []; last = new.mark; taken = new.mark; reach = new.mark; size = length new.bytes; taken_size = length new.bytes; synced_size = length new.bytes; segment = new.segment; failed = false }
+pub begun_keeps : (new : NewFile) (w : Writer) (head : Head) → Begins new head
+    → w ≡ record { mark = Some (mark_in new.header); buffer = []; last = new.mark; taken = new.mark; reach = new.mark; size = 37; taken_size = 37; synced_size = 37; frames = 40; segment = (text_head new.header).segment; failed = false }
     → Keeps w (begun head new.mark)
-begun_keeps new w head begins is = subst (λ (x : Writer). Keeps x (begun head new.mark)) (sym is) (record {
-  format = begins.format;
-  is_head = begins.is_head;
-  lawful = ((begins.fits, tt), omega arith, tt);
-  buffer = refl;
-  last = refl;
-  taken = refl;
-  reach = refl;
-  some = omega arith;
-  claim = begins.claim;
-  size = ap length begins.bytes;
-  taken_size = ap length begins.bytes;
-  synced_size = ap length begins.bytes;
-  segment = begins.segment;
-})
+begun_keeps new w head begins is =
+    let header = new.header in
+    subst (λ (h : Head). Keeps w (begun h new.mark)) (sym begins.text) (subst (λ (x : Writer). Keeps x (begun (text_head header) new.mark)) (sym is) (record {
+      format = refl;
+      is_head = record { from = begins.is_header.from; segment = (refl, begins.is_header.worker, begins.is_header.segment) };
+      lawful = ((begins.fits, tt), omega arith, tt);
+      buffer = refl;
+      last = refl;
+      taken = refl;
+      reach = refl;
+      some = omega arith;
+      claim = begins.claim;
+      size = sym (new_size header new.mark);
+      taken_size = sym (new_size header new.mark);
+      synced_size = sym (new_size header new.mark);
+      segment = refl;
+    }))
 
 -- ---- steps of a file
 
@@ -317,31 +325,29 @@ exact n count is small = omega (arith, is)
 some_counted : (n count : ℕ) → count ≡ min n (2 ^ 64 - 1) → 0 < count → 0 < n
 some_counted n count is some = omega (arith, is)
 
-pub resumed_keeps : (front : LogFront) (bytes : List ℕ) (records : List Logged) (w : Writer) → IsTextFrontOf bytes records front → MayGoOn front
-    → w ≡ record { buffer = []; last = front.latest; taken = front.latest; reach = front.latest; size = front.bytes; taken_size = front.bytes; synced_size = front.bytes; segment = front.head.segment; failed = false }
-    → Keeps w (read_back front.head records) × (bytes ≡ log_bytes front.head records)
-resumed_keeps front bytes records w is may same =
+pub resumed_keeps : (front : LogFront) (bytes : List ℕ) (records : List Logged) (w : Writer) (mark : Option ℕ) (size : ℕ) → IsFrontOf bytes records front → MayGoOn front size
+    → w ≡ record { mark = mark; buffer = []; last = front.latest; taken = front.latest; reach = front.latest; size = front.bytes; taken_size = front.bytes; synced_size = front.bytes; frames = size - front.bytes; segment = front.head.segment; failed = false }
+    → Keeps w (read_back front.head records)
+resumed_keeps front bytes records w mark size is may same =
     let all : records_of (read_back front.head records) ≡ records = append-nil (records ++ []) ∙ append-nil records in
     let out : handed_out (read_back front.head records) ≡ records = append-nil records in
     let last : front.latest ≡ latest 0 records = ap (λ (f : LogFront). f.latest) is.numbers in
-    let size : front.bytes ≡ length (log_bytes front.head records) = exact (length (log_bytes front.head records)) front.bytes (ap (λ (f : LogFront). f.bytes) is.numbers) may.size in
+    let text : front.bytes ≡ length (log_bytes front.head records) =
+    exact (length (log_bytes front.head records)) front.bytes (ap (λ (f : LogFront). f.bytes) is.numbers) (omega (arith, may.text, may.fits)) in
     let long = λ (rs : List Logged). length (log_bytes front.head rs) in
     let lawful = subst (λ (f : Format). AreRecords (limits_of f) 0 records) may.format is.lawful in
-    let rest : is.rest ≡ [] = subst (IsTextRest (limits_of front.head.format) (latest 0 records) is.rest) may.rest is.is_rest in (
-      subst (λ (x : Writer). Keeps x (read_back front.head records)) (sym same) (record {
-        format = may.format;
-        is_head = is.is_head;
-        lawful = subst (AreRecords widest 0) (sym all) lawful;
-        buffer = refl;
-        last = last ∙ ap (latest 0) (sym all);
-        taken = last ∙ ap (latest 0) (sym out);
-        reach = last;
-        some = some_counted (length records) front.count (ap (λ (f : LogFront). f.count) is.numbers) may.some;
-        claim = may.claim;
-        size = size ∙ ap long (sym all);
-        taken_size = size ∙ ap long (sym out);
-        synced_size = size;
-        segment = refl;
-      }),
-      is.spelled ∙ ap (λ (x : List ℕ). log_bytes front.head records ++ x) rest ∙ append-nil (log_bytes front.head records),
-    )
+    subst (λ (x : Writer). Keeps x (read_back front.head records)) (sym same) (record {
+      format = may.format;
+      is_head = is.is_head;
+      lawful = subst (AreRecords widest 0) (sym all) lawful;
+      buffer = refl;
+      last = last ∙ ap (latest 0) (sym all);
+      taken = last ∙ ap (latest 0) (sym out);
+      reach = last;
+      some = some_counted (length records) front.count (ap (λ (f : LogFront). f.count) is.numbers) may.some;
+      claim = may.claim;
+      size = text ∙ ap long (sym all);
+      taken_size = text ∙ ap long (sym out);
+      synced_size = text;
+      segment = refl;
+    })

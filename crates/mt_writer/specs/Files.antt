@@ -1,8 +1,9 @@
 -- Files of logs, as they are being written.
-use Rattle.std.specs.Prelude.{◌≡◌, ℕ, ◌≤◌, false, List, ◌++◌, Contains}
+use Rattle.std.specs.Prelude.{◌≡◌, ℕ, ◌≤◌, Bool, false, List, ◌++◌, Contains}
 use Rattle.mt_words.specs.Changes.{Logged}
 use Rattle.mt_record.specs.declared.feed.head.Head.{Head}
 use Rattle.mt_record.specs.Heads.{IsHead, head_bytes}
+use Rattle.mt_record.specs.Opening.{Opens}
 use Rattle.mt_record.specs.Logs.{log_bytes, LogReading, IsReading}
 
 -- the bytes begin with a whole header
@@ -12,13 +13,23 @@ pub record HasHeader (bytes : List ℕ) : Type 0 where
   pub more : List ℕ
   pub spelled : bytes ≡ head_bytes head ++ more
 
--- what is left is a beginning of the bytes that were written, and has at least their whole header
+-- what is left of a text is a beginning of it, and has at least its whole header
 pub record IsCutOf (left written : List ℕ) : Type 0 where
   pub lost : List ℕ
   pub begins : written ≡ left ++ lost
   pub header : HasHeader left
 
--- a file of a log, as it is being written: its header, its records, and the bytes of it that are synced
+-- What is left of a file: its text is a beginning of the text that was written, and has at least the whole header. Anything may follow the text.
+pub record IsCutFileOf (left written : List ℕ) : Type 0 where
+  pub text : List ℕ
+  pub torn : Bool
+  pub opens : Opens left text torn
+  pub whole : List ℕ
+  pub ended : Bool
+  pub opens_written : Opens written whole ended
+  pub is_cut : IsCutOf text whole
+
+-- a file of a log, as it is being written: the header of its text, its records, and the bytes of the text that are synced
 pub record OpenFile : Type 0 where
   pub head : Head
   pub records : List Logged

@@ -1,18 +1,22 @@
 -- What a writer of a log keeps: its file, and how far it was taken and synced.
-use Rattle.std.specs.Prelude.{◌≡◌, ℕ, Bool, ◌≤◌, ◌<◌, ◌^◌, Option, Some, List, [], ◌∷◌, ◌++◌, length, Contains}
+use Rattle.std.specs.Prelude.{◌≡◌, ℕ, ◌+◌, Bool, ◌≤◌, ◌<◌, ◌^◌, Option, Some, List, [], ◌∷◌, ◌++◌, length, Contains}
 use Rattle.std.specs.List.{flat_map}
 use Rattle.mt_words.specs.Changes.{Logged}
 use Rattle.mt_words.specs.Built.{mark_of}
 use Rattle.mt_words.specs.Limits.{widest}
 use Rattle.mt_words.specs.declared.limits.Format.TheVariants.{Two}
+use Rattle.mt_block.specs.declared.header.Header.{Header}
+use Rattle.mt_block.specs.Blocks.{IsHeader, header_bytes, mark_of as mark_in, block}
 use Rattle.mt_record.specs.declared.feed.head.Segment.{Segment}
 use Rattle.mt_record.specs.declared.feed.head.Head.{Head}
 use Rattle.mt_record.specs.Heads.{IsHead}
+use Rattle.mt_record.specs.Opening.{text_head}
 use Rattle.mt_record.specs.Spelling.{spelling}
 use Rattle.mt_record.specs.Logs.{AreRecords, latest, log_bytes, times_of}
 use Rattle.mt_record.specs.declared.read.TheConstants.{MOST_BYTES}
 use Rattle.mt_record.specs.declared.front.Rest.TheVariants.{Nothing}
 use Rattle.mt_record.specs.declared.front.LogFront.{LogFront}
+use Rattle.mt_writer.specs.Framing.{IsFileWith}
 use Rattle.mt_writer.specs.Files.{OpenFile, file_bytes, file_reading, HasSynced}
 
 -- A file of a log, as its writer knows it: the records that are synced, those that were taken to be appended, and those that are held in the buffer, in this order.
@@ -54,16 +58,20 @@ syncing j = record j { synced = handed_out j; taken = [] }
 
 -- what a contract sees of a writer
 pub record Writer : Type 0 where
+  -- the mark of the file, if it has blocks
+  pub mark : Option ℕ
   -- the bytes of the held records
   pub buffer : List ℕ
   -- the timestamps of the last record, of the last that was taken, and of the last that is synced
   pub last : ℕ
   pub taken : ℕ
   pub reach : ℕ
-  -- how many bytes the file has, with those of the buffer; how many were taken, and how many are synced
+  -- how many bytes the text has, with those of the buffer; how many were taken, and how many are synced
   pub size : ℕ
   pub taken_size : ℕ
   pub synced_size : ℕ
+  -- how many more bytes the file has than its text, as far as it was taken
+  pub frames : ℕ
   -- the segment that the file is, if it is one
   pub segment : Option Segment
   -- whether a write or a sync failed
@@ -85,32 +93,43 @@ pub record Keeps (w : Writer) (j : Journal) : Type 0 where
   pub synced_size : w.synced_size ≡ length (log_bytes j.head j.synced)
   pub segment : w.segment ≡ j.head.segment
 
+-- The bytes are those of the file, as far as it was taken.
+pub record IsFileOf (w : Writer) (j : Journal) (bytes : List ℕ) : Type 0 where
+  pub is_file : IsFileWith w.mark j.head (handed_out j) bytes
+  pub size : length bytes ≡ w.taken_size + w.frames
+
+-- nothing was taken between the two: bytes that are those of the file still are
+pub record SameFile (before after : Writer) : Type 0 where
+  pub mark : after.mark ≡ before.mark
+  pub taken_size : after.taken_size ≡ before.taken_size
+  pub frames : after.frames ≡ before.frames
+
 -- above each timestamp below the reach the file has a synced record
 abbrev pub IsReached : ℕ → OpenFile → Type 0
 IsReached reach file = (time : ℕ) → time < reach → HasSynced (λ r. time < r.timestamp) file
 
--- A writer may go on with the log: it is of format 2, ends with a record, has one at or past its `from`, and is no larger than a file may be.
-pub record MayGoOn (front : LogFront) : Type 0 where
+-- A writer may go on with the log in a file of this size: it has the records of format 2, ends with a record, has one at or past its `from`, and the file is no larger than it may be.
+pub record MayGoOn (front : LogFront) (size : ℕ) : Type 0 where
   pub format : front.head.format ≡ Two
   pub rest : front.rest ≡ Nothing
   pub some : 0 < front.count
   pub claim : front.head.from ≤ front.latest
-  pub size : front.bytes ≤ MOST_BYTES
+  pub text : front.bytes ≤ size
+  pub fits : size ≤ MOST_BYTES
 
--- what a contract sees of a file that is to be created: its bytes, the timestamp of its mark, and the segment that it is
+-- what a contract sees of a file that is to be created: its bytes, its header, and the timestamp of its mark
 pub record NewFile : Type 0 where
   pub bytes : List ℕ
+  pub header : Header
   pub mark : ℕ
-  pub segment : Option Segment
 
--- the new file has this header, and then its mark, which is at or past the header's `from`
+-- the new file has its header and one block, of a mark at or past the header's `from`; its text has this header
 pub record Begins (new : NewFile) (head : Head) : Type 0 where
-  pub format : head.format ≡ Two
-  pub is_head : IsHead head
-  pub claim : head.from ≤ new.mark
+  pub text : head ≡ text_head new.header
+  pub is_header : IsHeader new.header
+  pub claim : new.header.from ≤ new.mark
   pub fits : new.mark < 2 ^ 64
-  pub bytes : new.bytes ≡ log_bytes head (mark_of new.mark ∷ [])
-  pub segment : new.segment ≡ head.segment
+  pub bytes : new.bytes ≡ header_bytes new.header ++ block (mark_in new.header) (spelling (mark_of new.mark))
 
 -- the file is this segment, is synced whole, reaches `last`, and has no timestamp above it
 pub record IsSealed (last worker number : ℕ) (j : Journal) : Type 0 where

@@ -1,6 +1,10 @@
 //! What a writer's journal says of its file, and each call of the file's steps.
-ghost use Rattle.std.specs.Prelude.{ℕ};
+ghost use Rattle.std.specs.Prelude.{false, Option, List, ℕ};
 ghost use Rattle.mt_words.specs.Changes.{Logged};
+ghost use Rattle.mt_record.specs.declared.feed.head.Head.{Head};
+ghost use Rattle.mt_record.specs.Logs.{log_bytes};
+ghost use Rattle.mt_record.specs.Opening.{Opens};
+ghost use Rattle.mt_writer.specs.Framing.{IsFileWith};
 ghost use Rattle.mt_writer.specs.Files.{OpenFile, IsOpenFile, IsWritten, IsSynced};
 ghost use Rattle.mt_writer.specs.Journals.{Journal, Writer, Keeps, file_of, holding, taking, syncing, IsReached};
 
@@ -18,4 +22,11 @@ pub fn a_journal_is_an_open_file()
 pub fn a_reach_stays_true()
     ensures written { (reach : ℕ) (before after : OpenFile) → IsWritten before after → IsReached reach before → IsReached reach after }
     ensures synced { (reach : ℕ) (w : Writer) (j : Journal) → Keeps w j → IsReached reach (file_of j) → IsReached reach (file_of (syncing j)) }
+{}
+
+/// States that the text of a file with these records is that of a header and the records, and that no torn block follows
+/// it. This is a law: it has nothing to run.
+pub fn a_file_has_its_text()
+    ensures { (mark : Option ℕ) (head : Head) (records : List Logged) (bytes : List ℕ) → IsFileWith mark head records bytes →
+        Opens bytes (log_bytes head records) false }
 {}

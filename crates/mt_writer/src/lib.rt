@@ -5,7 +5,7 @@
 //! be acknowledged.
 //!
 //! ```
-//! let new = NewLog::begin(alloc, 0, 1)?;
+//! let new = NewLog::begin(alloc, Header { salt, worker: 0, segment: 0, workers: 1, from: 0 }, 1)?;
 //! // Write new.bytes() to a file under another name, sync it, rename it, and sync the folder.
 //! let mut log = new.created();
 //! let red = Given { number: 0, bytes: b"red" };
@@ -23,6 +23,7 @@
 //! Begin with `log_writer.rt`, and with `specs/Journals.antt`, which says what a writer keeps.
 #![tactic(auto)]
 
+mod held;
 mod laws;
 mod log_writer;
 mod new_log;
@@ -31,7 +32,7 @@ mod reaches;
 mod tests;
 mod writer_fault;
 
-pub use laws::{a_journal_is_an_open_file, a_reach_stays_true};
+pub use laws::{a_file_has_its_text, a_journal_is_an_open_file, a_reach_stays_true};
 pub use log_writer::{LONGEST_RECORD, LogWriter};
 pub use new_log::NewLog;
 pub use reaches::least_reach;

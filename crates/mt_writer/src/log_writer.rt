@@ -1,26 +1,27 @@
 //! Writes a file of a log, as bytes to be appended and synced.
-ghost use Rattle.std.specs.Prelude.{◌≡◌, ◌↔◌, ◌⊎◌, ◌+◌, ◌<◌, ◌≤◌, ◌++◌, [], ℕ, ◌-◌, true, false, length, map, List, Err, max, IsSome, IfSome, IfNone, OnSome, IfOk, IfErr, OnOk, OnErr};
+ghost use Rattle.std.specs.Prelude.{◌≡◌, ◌↔◌, ◌⊎◌, ◌+◌, ◌<◌, ◌≤◌, ◌++◌, [], ℕ, ◌-◌, true, false, length, map, List, Err, max, IsTrue, IsSome, IfSome, IfNone, OnSome, IfOk, IfErr, OnOk, OnErr, flat_map};
 ghost use Rattle.mt_words.specs.Changes.{Logged, IsLogged, IsLawfulChange, changed};
 ghost use Rattle.mt_words.specs.Limits.{widest};
 ghost use Rattle.mt_words.specs.Built.{mark_of, put_of, remove_of, erase_of};
 ghost use Rattle.mt_words.specs.declared.update.Kind.TheVariants as kinds;
+ghost use Rattle.mt_block.specs.Blocks.{IsBody};
 ghost use Rattle.mt_record.specs.Given.{column_of, kind_of, change_of};
 ghost use Rattle.mt_record.specs.Logs.{log_bytes};
-ghost use Rattle.mt_record.specs.LogFronts.{IsTextFrontOf};
+ghost use Rattle.mt_record.specs.Spelling.{spelling};
+ghost use Rattle.mt_record.specs.LogFronts.{IsFrontOf};
 ghost use Rattle.mt_record.specs.Resuming.{greatest_timestamp};
-ghost use Rattle.mt_writer.specs.Files.{file_bytes};
-ghost use Rattle.mt_writer.specs.Journals.{Journal, Keeps, file_of, handed_out, holding, taking, syncing, read_back, MayGoOn, IsReached, IsSealed};
-ghost use Rattle.mt_writer.specs.Refusing.{HasEnded, IsRefused, IsUnlawful, MayNotSeal};
+ghost use Rattle.mt_writer.specs.Framing.{framed, HasMark};
+ghost use Rattle.mt_writer.specs.Journals.{Journal, Keeps, file_of, holding, taking, syncing, read_back, MayGoOn, IsReached, IsSealed, IsFileOf, SameFile};
+ghost use Rattle.mt_writer.specs.Refusing.{HasEnded, HasRoom, IsRefused, IsUnlawful, MayNotSeal};
 ghost use Rattle.mt_writer.specs.declared.writer_fault.WriterFault.TheVariants as faults;
 
+use crate::held::Held;
 use crate::writer_fault::WriterFault;
-use mt_record::{
-    Given, GivenChange, GivenKind, LogFront, MOST_BYTES, Rest, Segment, encode_given, encode_record,
-};
+use mt_block::{FRAME_BYTES, MOST_BODY};
+use mt_record::{Given, GivenChange, GivenKind, LogFront, MOST_BYTES, Rest, Segment};
 use mt_words::{Format, LONGEST_KEY, Record};
 use std::alloc::Global;
 use std::marker::Model;
-use std::mem;
 
 /// The most bytes of a record: a put with the longest key and all columns, each with the longest value.
 pub const LONGEST_RECORD: u64 = 4_198_556;
@@ -29,19 +30,21 @@ pub const LONGEST_RECORD: u64 = 4_198_556;
 #[derive(Drop)]
 pub struct LogWriter {
     /// The records that are not taken.
-    pub(crate) buffer: Vec<u8>,
+    pub(crate) held: Held,
     /// The timestamp of the last record.
     pub(crate) last: u64,
     /// The timestamp of the last record that was taken.
     pub(crate) taken: u64,
     /// The timestamp of the last record that is synced.
     pub(crate) reach: u64,
-    /// The number of bytes of the file, with those of the buffer.
+    /// The number of bytes of the text, with those held.
     pub(crate) size: u64,
     /// The number of bytes that were taken.
     pub(crate) taken_size: u64,
     /// The number of bytes that are synced.
     pub(crate) synced_size: u64,
+    /// How many more bytes the file has than its text, as far as it was taken.
+    pub(crate) frames: u64,
     /// The segment that the file is, if it is one.
     pub(crate) segment: Option<Segment>,
     /// Whether a write or a sync failed.
@@ -49,50 +52,60 @@ pub struct LogWriter {
 }
 
 impl Model for LogWriter {
-    ghost use Rattle.std.specs.Prelude.{◌≤◌};
+    ghost use Rattle.std.specs.Prelude.{◌+◌, ◌≤◌, length};
+    ghost use Rattle.mt_block.specs.declared.block.TheConstants.{MOST_BODY};
+    ghost use Rattle.mt_writer.specs.Framing.{frame_bytes};
     ghost use Rattle.mt_writer.specs.Journals.{Writer};
     ghost use Rattle.mt_record.specs.declared.read.TheConstants.{MOST_BYTES};
 
     ghost Value = { Writer };
 
     ghost view = { λ w. record {
-      buffer = w.buffer.items;
+      mark = w.held.mark;
+      buffer = w.held.records;
       last = w.last;
       taken = w.taken;
       reach = w.reach;
       size = w.size;
       taken_size = w.taken_size;
       synced_size = w.synced_size;
+      frames = w.frames;
       segment = w.segment;
       failed = w.failed;
     } };
 
-    ghost invariant = { λ w. w.size ≤ MOST_BYTES };
+    ghost invariant = { λ w. (w.size + w.frames + frame_bytes w.held.mark w.held.records ≤ MOST_BYTES) × (length w.held.records ≤ MOST_BODY) };
 }
 
 impl LogWriter {
-    /// Goes on with a log that was resumed, a file of format 2 or 3 of which all bytes are synced and this is the front.
-    /// Returns None if the log has no record at or past its `from`, does not end with a record, is of format 1, or has
-    /// more than `MOST_BYTES`.
-    pub fn resumed(alloc: Global, front: LogFront) -> Option<LogWriter>
-        ensures accepted { IsSome result ↔ MayGoOn front }
-        ensures value { (bytes : List ℕ) (records : List Logged) → IsTextFrontOf bytes records front →
-            IfSome result (λ writer. Keeps writer (read_back front.head records) × (bytes ≡ log_bytes front.head records)) }
+    /// Goes on with a file that has this front, and of which all bytes are synced. `mark` is the file's, if it has blocks:
+    /// then each write appends one block, and else records alone. `size` is the number of the file's bytes. Returns None if
+    /// the log has no record at or past its `from`, does not end with a record, is of format 1, or has more than
+    /// `MOST_BYTES`.
+    pub fn resumed(
+        alloc: Global,
+        front: LogFront,
+        mark: Option<u32>,
+        size: u64,
+    ) -> Option<LogWriter>
+        ensures accepted { IsSome result ↔ MayGoOn front size }
+        ensures value { (bytes : List ℕ) (records : List Logged) → IsFrontOf bytes records front → HasMark mark bytes → size ≡ length bytes →
+            IfSome result (λ writer. Keeps writer (read_back front.head records) × IsFileOf writer (read_back front.head records) bytes) }
+        ensures mark { IfSome result (λ writer. writer.mark ≡ mark) }
         ensures failed { IfSome result (λ writer. writer.failed ≡ false) }
     {
-        let is_whole = front.rest == Rest::Nothing && front.head.format == Format::Two;
-        let reaches_from = front.count != 0 && front.head.from <= front.latest;
-        if !is_whole || !reaches_from || front.bytes > MOST_BYTES {
+        if !may_go_on(front, size) {
             return None;
         }
         Some(LogWriter {
-            buffer: Vec::new(alloc),
+            held: Held::new(mark, Vec::new(alloc)),
             last: front.latest,
             taken: front.latest,
             reach: front.latest,
             size: front.bytes,
             taken_size: front.bytes,
             synced_size: front.bytes,
+            frames: size - front.bytes,
             segment: front.head.segment,
             failed: false,
         })
@@ -110,6 +123,7 @@ impl LogWriter {
         ensures ok { (j : Journal) → Keeps self.old j → IfOk result (λ time. Keeps self.new (holding j (put_of time version key.now (map column_of columns.now)))) }
         ensures time { IfOk result (λ time. time ≡ max self.old.last now) }
         ensures same { OnOk result (self.new.failed ≡ self.old.failed) }
+        ensures file { SameFile self.old self.new }
         ensures err { OnErr result (self.new ≡ self.old) }
         ensures failed { self.old.failed ≡ true → result ≡ Err faults.Failed }
         ensures fault { IfErr result (λ fault. IsRefused self.old (HasEnded self.old now) fault ⊎ IsUnlawful (record { version = version; key = key.now; kind = kinds.Put (map column_of columns.now) }) fault) }
@@ -123,6 +137,7 @@ impl LogWriter {
         ensures ok { (j : Journal) → Keeps self.old j → IfOk result (λ time. Keeps self.new (holding j (remove_of time version key.now))) }
         ensures time { IfOk result (λ time. time ≡ max self.old.last now) }
         ensures same { OnOk result (self.new.failed ≡ self.old.failed) }
+        ensures file { SameFile self.old self.new }
         ensures err { OnErr result (self.new ≡ self.old) }
         ensures failed { self.old.failed ≡ true → result ≡ Err faults.Failed }
         ensures fault { IfErr result (λ fault. IsRefused self.old (HasEnded self.old now) fault ⊎ IsUnlawful (record { version = version; key = key.now; kind = kinds.Remove }) fault) }
@@ -142,6 +157,7 @@ impl LogWriter {
         ensures ok { (j : Journal) → Keeps self.old j → IfOk result (λ time. Keeps self.new (holding j (erase_of time version key.now numbers.now))) }
         ensures time { IfOk result (λ time. time ≡ max self.old.last now) }
         ensures same { OnOk result (self.new.failed ≡ self.old.failed) }
+        ensures file { SameFile self.old self.new }
         ensures err { OnErr result (self.new ≡ self.old) }
         ensures failed { self.old.failed ≡ true → result ≡ Err faults.Failed }
         ensures fault { IfErr result (λ fault. IsRefused self.old (HasEnded self.old now) fault ⊎ IsUnlawful (record { version = version; key = key.now; kind = kinds.Erase numbers.now }) fault) }
@@ -155,6 +171,7 @@ impl LogWriter {
         ensures ok { (j : Journal) → Keeps self.old j → IfOk result (λ time. Keeps self.new (holding j (mark_of time))) }
         ensures time { IfOk result (λ time. time ≡ max self.old.last now) }
         ensures same { OnOk result (self.new.failed ≡ self.old.failed) }
+        ensures file { SameFile self.old self.new }
         ensures err { OnErr result (self.new ≡ self.old) }
         ensures failed { self.old.failed ≡ true → result ≡ Err faults.Failed }
         ensures fault { IfErr result (IsRefused self.old (HasEnded self.old now)) }
@@ -168,6 +185,7 @@ impl LogWriter {
     pub fn end(&mut self) -> Result<(), WriterFault>
         ensures ok { (j : Journal) → Keeps self.old j → OnOk result (Keeps self.new (holding j (mark_of greatest_timestamp))) }
         ensures same { OnOk result (self.new.failed ≡ self.old.failed) }
+        ensures file { SameFile self.old self.new }
         ensures err { OnErr result (self.new ≡ self.old) }
         ensures failed { self.old.failed ≡ true → result ≡ Err faults.Failed }
         ensures fault { IfErr result (IsRefused self.old ⊥) }
@@ -177,28 +195,34 @@ impl LogWriter {
         self.append_mark(u64::MAX)
     }
 
-    /// Takes the bytes to be appended to the file, as one write. The writer goes on with `spare`, emptied. None: the write
-    /// before it is not noted as synced, or one failed. So a crash leaves at most one write torn.
-    pub fn take(&mut self, mut spare: Vec<u8>) -> Option<Vec<u8>>
+    /// Takes the bytes to be appended to the file, as one write: one block, if the file has blocks. The writer goes on with
+    /// `spare`, emptied. None: the write before it is not noted as synced, or one failed. So a crash leaves at most one
+    /// write torn.
+    pub fn take(&mut self, spare: Vec<u8>) -> Option<Vec<u8>>
         ensures accepted { (j : Journal) → Keeps self.old j → IsSome result ↔ ((self.old.failed ≡ false) × (j.taken ≡ [])) }
         ensures writer { (j : Journal) → Keeps self.old j → OnSome result (Keeps self.new (taking j)) }
-        ensures bytes { (j : Journal) → Keeps self.old j → IfSome result (λ bytes. log_bytes j.head (handed_out j) ++ bytes.items ≡ file_bytes (file_of j)) }
+        ensures bytes { (j : Journal) → Keeps self.old j → IfSome result (λ bytes. bytes.items ≡ framed self.old.mark (flat_map spelling j.held)) }
+        ensures body { (j : Journal) → Keeps self.old j → OnSome result (IfSome self.old.mark (λ mark. IsBody (flat_map spelling j.held))) }
+        ensures file { (j : Journal) (file : List ℕ) → Keeps self.old j → IsFileOf self.old j file → IfSome result (λ bytes. IsFileOf self.new (taking j) (file ++ bytes.items)) }
         ensures same { self.new.failed ≡ self.old.failed }
         ensures none { IfNone result (self.new ≡ self.old) }
     {
         if self.failed || self.taken_size != self.synced_size {
             return None;
         }
-        spare.clear();
+        let records = self.held.len();
+        let bytes = self.held.take(spare);
+        self.frames += (bytes.len() - records) as u64;
         self.taken = self.last;
         self.taken_size = self.size;
-        Some(mem::replace(&mut self.buffer, spare))
+        Some(bytes)
     }
 
     /// Notes that the file has all bytes that were taken, and was synced since. After a failure this does nothing.
     pub fn synced(&mut self)
         ensures synced { (j : Journal) → Keeps self.old j → self.old.failed ≡ false → Keeps self.new (syncing j) }
         ensures same { self.new.failed ≡ self.old.failed }
+        ensures file { SameFile self.old self.new }
         ensures failed { self.old.failed ≡ true → self.new ≡ self.old }
     {
         if self.failed {
@@ -256,15 +280,17 @@ impl LogWriter {
         ensures ok { (j : Journal) → Keeps self.old j → IfOk result (λ time. Keeps self.new (holding j (changed time (change_of given.entry)))) }
         ensures time { IfOk result (λ time. time ≡ max self.old.last now) }
         ensures same { OnOk result (self.new.failed ≡ self.old.failed) }
+        ensures file { SameFile self.old self.new }
         ensures err { OnErr result (self.new ≡ self.old) }
         ensures failed { self.old.failed ≡ true → result ≡ Err faults.Failed }
         ensures fault { IfErr result (λ fault. IsRefused self.old (HasEnded self.old now) fault ⊎ IsUnlawful (change_of given.entry) fault) }
     {
         let time = self.time(now)?;
         allow(given)?;
-        let before = self.buffer.len();
-        encode_given(time, given, &mut self.buffer)?;
-        self.note(time, before);
+        let before = self.held.len();
+        self.held.append_change(time, given)?;
+        self.size += (self.held.len() - before) as u64;
+        self.last = time;
         Ok(time)
     }
 
@@ -273,21 +299,23 @@ impl LogWriter {
         requires { self.old.last ≤ time }
         ensures ok { (j : Journal) → Keeps self.old j → OnOk result (Keeps self.new (holding j (mark_of time))) }
         ensures same { OnOk result (self.new.failed ≡ self.old.failed) }
+        ensures file { SameFile self.old self.new }
         ensures err { OnErr result (self.new ≡ self.old) }
         ensures failed { self.old.failed ≡ true → result ≡ Err faults.Failed }
         ensures fault { IfErr result (IsRefused self.old ⊥) }
     {
         self.admit()?;
-        let before = self.buffer.len();
-        encode_record(&Record::mark(time), &mut self.buffer)?;
-        self.note(time, before);
+        let before = self.held.len();
+        self.held.append(&Record::mark(time))?;
+        self.size += (self.held.len() - before) as u64;
+        self.last = time;
         Ok(())
     }
 
     /// Returns the timestamp of a record that is appended now. Err: no record may be appended.
     fn time(&self, now: u64) -> Result<u64, WriterFault>
         ensures ok { IfOk result (λ time. (time ≡ max self.now.last now) × (time < greatest_timestamp)) }
-        ensures room { OnOk result (self.now.size + LONGEST_RECORD ≤ MOST_BYTES) }
+        ensures room { OnOk result (HasRoom self.now) }
         ensures failed { self.now.failed ≡ true → result ≡ Err faults.Failed }
         ensures fault { IfErr result (IsRefused self.now (HasEnded self.now now)) }
     {
@@ -300,30 +328,24 @@ impl LogWriter {
         Ok(time)
     }
 
-    /// Returns whether any record may be appended. Err: `Failed` or `Full`.
+    /// Returns whether any record may be appended. Err: `Failed`, `Full` or `Untaken`.
     fn admit(&self) -> Result<(), WriterFault>
-        ensures room { OnOk result (self.now.size + LONGEST_RECORD ≤ MOST_BYTES) }
+        ensures room { OnOk result (HasRoom self.now) }
         ensures failed { self.now.failed ≡ true → result ≡ Err faults.Failed }
         ensures fault { IfErr result (IsRefused self.now ⊥) }
     {
         if self.failed {
             return Err(WriterFault::Failed);
         }
-        if self.size > MOST_BYTES - LONGEST_RECORD {
+        if self.size + self.frames > MOST_BYTES - FRAME_BYTES as u64 - LONGEST_RECORD {
             // Recovery refuses a file of more than MOST_BYTES.
             return Err(WriterFault::Full);
         }
+        if self.held.len() as u64 > MOST_BODY as u64 - LONGEST_RECORD {
+            // A block has at most MOST_BODY.
+            return Err(WriterFault::Untaken);
+        }
         Ok(())
-    }
-
-    /// Notes the record at this timestamp that was appended to the first `before` bytes of the buffer.
-    fn note(&mut self, time: u64, before: usize)
-        requires grown { before ≤ length self.old.buffer }
-        requires room { self.old.size + length self.old.buffer ≤ MOST_BYTES + before }
-        ensures { self.new ≡ record self.old { last = time; size = self.old.size + (length self.old.buffer - before) } }
-    {
-        self.size += (self.buffer.len() - before) as u64;
-        self.last = time;
     }
 }
 
@@ -342,4 +364,13 @@ fn allow(given: GivenChange<'_>) -> Result<(), WriterFault>
         return Err(WriterFault::Columns);
     }
     Ok(())
+}
+
+/// Returns whether a writer may go on with a file of this size that has this front.
+fn may_go_on(front: LogFront, size: u64) -> bool
+    ensures { IsTrue result ↔ MayGoOn front size }
+{
+    let is_whole = front.rest == Rest::Nothing && front.head.format == Format::Two;
+    let reaches_from = front.count != 0 && front.head.from <= front.latest;
+    is_whole && reaches_from && front.bytes <= size && size <= MOST_BYTES
 }

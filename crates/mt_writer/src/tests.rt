@@ -1,6 +1,15 @@
 //! Tests of what no contract says: that a log takes records and hands them out, and is sealed.
 use crate::{LogWriter, NewLog, WriterFault};
+use mt_block::Header;
 use mt_record::{Given, Rest, read_log};
+
+const HEADER: Header = Header {
+    salt: 7,
+    worker: 3,
+    segment: 0,
+    workers: 4,
+    from: 0,
+};
 
 /// Puts one column under `k`, and returns the timestamp.
 fn put(log: &mut LogWriter, now: u64, version: u64) -> Result<u64, WriterFault> {
@@ -14,7 +23,7 @@ fn put(log: &mut LogWriter, now: u64, version: u64) -> Result<u64, WriterFault> 
 #[test]
 fn what_is_written_is_read(rt: HostRuntime) {
     let alloc = rt.alloc();
-    let new = NewLog::begin(alloc, 0, 5).expect(&rt, "memory");
+    let new = NewLog::begin(alloc, HEADER, 5).expect(&rt, "memory");
     let mut file = Vec::new(alloc);
     file.extend_from_slice(new.bytes()).expect(&rt, "memory");
     let mut log = new.created();
@@ -34,7 +43,7 @@ fn what_is_written_is_read(rt: HostRuntime) {
 #[test]
 fn a_segment_is_sealed_after_a_sync(rt: HostRuntime) {
     let alloc = rt.alloc();
-    let new = NewLog::segment(alloc, 0, 3, 0, 5).expect(&rt, "memory");
+    let new = NewLog::begin(alloc, HEADER, 5).expect(&rt, "memory");
     let mut log = new.created();
     assert_eq!(&rt; log.mark(6), Ok(6));
     let _ = log.take(Vec::new(alloc));
@@ -44,7 +53,7 @@ fn a_segment_is_sealed_after_a_sync(rt: HostRuntime) {
 
 #[test]
 fn an_ended_log_takes_no_mark(rt: HostRuntime) {
-    let new = NewLog::begin(rt.alloc(), 0, 5).expect(&rt, "memory");
+    let new = NewLog::begin(rt.alloc(), HEADER, 5).expect(&rt, "memory");
     let mut log = new.created();
     assert!(&rt; log.end().is_ok());
     assert_eq!(&rt; log.mark(6), Err(WriterFault::Ended));

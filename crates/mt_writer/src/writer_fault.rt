@@ -17,6 +17,9 @@ pub enum WriterFault {
     /// The file has no room for another record, or the log no number for another segment.
     #[error("the log is full")]
     Full,
+    /// So much is held that it must be taken first.
+    #[error("a write is due")]
+    Untaken,
     /// The version is 0.
     #[error("version 0")]
     Version,

@@ -1,20 +1,18 @@
-use Rattle.std.proofs.Common.{◌++◌, ap, sym, ◌∙◌, subst, arith}
+use Rattle.std.proofs.Common.{◌≡◌, ◌+◌, ◌++◌, length, refl, ap, sym, ◌∙◌, subst, arith}
+use Rattle.std.proofs.lemmas.List.{length-append}
 use Rattle.mt_words.specs.Built.{mark_of}
-use Rattle.mt_record.specs.Spelling.{spelling}
 use Rattle.mt_words.specs.Changes.{Logged}
+use Rattle.mt_record.specs.Spelling.{spelling}
+use Rattle.mt_writer.specs.Framing.{Buffer}
 use Rattle.mt_writer.specs.Journals.{Writer, Keeps}
-use Rattle.mt_writer.proofs.JournalLemmas.{room_left, held_more}
+use Rattle.mt_writer.proofs.JournalLemmas.{held_more}
 use Rattle.mt_writer.proofs.log_writer.LogWriter.append_mark.Goals as goal
-
-pub note-requires-clause-room : goal.note-requires-clause-room
-note-requires-clause-room c =
-    let spelled = c.in_ok-encode_record.ensures.ok ∙ ap (λ (r : Logged). c.self.inside.buffer.items ++ spelling r) c.mark.ensures in
-    let room = room_left c.self.inside.size c.self.inside.buffer.items c.encode_record-2.new.out.items (mark_of c.args.time) (omega arith, tt) (omega (arith, c.in_ok-admit.ensures.room, ap (λ (w : Writer). w.size) c.self.view_is)) spelled in
-    omega (arith, room, c.len-before.ensures)
 
 pub returns-clause-ok : goal.returns-clause-ok
 returns-clause-ok c = λ j keeps.
-    let spelled = c.in_ok-encode_record.ensures.ok ∙ ap (λ (r : Logged). c.self.inside.buffer.items ++ spelling r) c.mark.ensures in
+    let r = mark_of c.args.time in
+    let bytes = c.append-2.new.self.records in
     let here = subst (λ (w : Writer). Keeps w j) (sym c.self.view_is) keeps in
-    held_more _ _ j (mark_of c.args.time) _ _ here (omega arith, tt) (omega (arith, c.requires, ap (λ (w : Writer). w.last) c.self.view_is))
-    spelled (omega (arith, c.len-before.ensures)) c.note.ensures
+    let spelled = ap (λ (b : Buffer). b.records) c.in_ok-append.ensures.ok ∙ ap (λ (x : Logged). c.self.inside.held.records ++ spelling x) c.mark.ensures in
+    held_more _ _ j r c.append-2.new.self.mark bytes _ here (omega arith, tt) (omega (arith, c.requires, ap (λ (w : Writer). w.last) c.self.view_is))
+    spelled (omega (arith, ap length spelled, length-append c.self.inside.held.records (spelling r), c.len.ensures, c.len-before.ensures)) refl

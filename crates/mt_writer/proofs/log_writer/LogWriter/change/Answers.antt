@@ -1,19 +1,36 @@
-use Rattle.std.proofs.Common.{ap, sym, subst, arith}
+use Rattle.std.proofs.Common.{◌≡◌, ◌+◌, length, refl, ap, sym, subst, arith}
+use Rattle.std.proofs.lemmas.List.{length-append}
 use Rattle.mt_words.specs.Changes.{changed}
 use Rattle.mt_record.specs.Given.{change_of}
+use Rattle.mt_record.specs.Spelling.{spelling}
+use Rattle.mt_writer.specs.Framing.{Buffer, frame_bytes}
 use Rattle.mt_writer.specs.Journals.{Writer, Keeps}
-use Rattle.mt_writer.proofs.JournalLemmas.{room_left, held_more}
+use Rattle.mt_writer.specs.Refusing.{HasRoom}
+use Rattle.mt_writer.proofs.JournalLemmas.{held_more}
+use Rattle.mt_writer.proofs.FileLemmas.{still_fits}
 use Rattle.mt_writer.proofs.log_writer.LogWriter.change.Goals as goal
 
-pub note-requires-clause-room : goal.note-requires-clause-room
-note-requires-clause-room c =
+pub overflow_add-self : goal.overflow_add-self
+overflow_add-self c =
     let r = changed c.in_ok-time.time (change_of c.args.given) in
-    let room = room_left c.self.inside.size c.self.inside.buffer.items c.encode_given.new.out.items r (omega (arith, c.in_ok-time.ensures.ok.1), (c.in_ok-allow.ensures.ok, c.requires)) (omega (arith, c.in_ok-time.ensures.room, ap (λ (w : Writer). w.size) c.self.view_is)) c.in_ok-encode_given.ensures.ok in
-    omega (arith, room, c.len-before.ensures)
+    let fits = still_fits _ r c.append_change.new.self.records (subst HasRoom (sym c.self.view_is) c.in_ok-time.ensures.room) (omega (arith, c.in_ok-time.ensures.ok.1), (c.in_ok-allow.ensures.ok, c.requires))
+    (ap (λ (b : Buffer). b.records) c.in_ok-append_change.ensures.ok) in
+    omega (arith, fits.0, c.len.ensures, c.len-before.ensures)
+
+pub invariant_of-self-2 : goal.invariant_of-self-2
+invariant_of-self-2 c =
+    let r = changed c.in_ok-time.time (change_of c.args.given) in
+    let bytes = c.append_change.new.self.records in
+    let fits = still_fits _ r bytes (subst HasRoom (sym c.self.view_is) c.in_ok-time.ensures.room) (omega (arith, c.in_ok-time.ensures.ok.1), (c.in_ok-allow.ensures.ok, c.requires))
+    (ap (λ (b : Buffer). b.records) c.in_ok-append_change.ensures.ok) in
+    let same = ap (λ (b : Buffer). frame_bytes b.mark bytes) c.in_ok-append_change.ensures.ok in
+    (omega (arith, fits.0, same, c.len.ensures, c.len-before.ensures), fits.1)
 
 pub returns-clause-ok : goal.returns-clause-ok
 returns-clause-ok c = λ j keeps.
     let r = changed c.in_ok-time.time (change_of c.args.given) in
+    let bytes = c.append_change.new.self.records in
     let here = subst (λ (w : Writer). Keeps w j) (sym c.self.view_is) keeps in
-    held_more _ _ j r _ _ here (omega (arith, c.in_ok-time.ensures.ok.1), (c.in_ok-allow.ensures.ok, c.requires)) (omega (arith, c.in_ok-time.ensures.ok.0, ap (λ (w : Writer). w.last) c.self.view_is))
-    c.in_ok-encode_given.ensures.ok (omega (arith, c.len-before.ensures)) c.note.ensures
+    let spelled = ap (λ (b : Buffer). b.records) c.in_ok-append_change.ensures.ok in
+    held_more _ _ j r c.append_change.new.self.mark bytes _ here (omega (arith, c.in_ok-time.ensures.ok.1), (c.in_ok-allow.ensures.ok, c.requires)) (omega (arith, c.in_ok-time.ensures.ok.0, ap (λ (w : Writer). w.last) c.self.view_is))
+    spelled (omega (arith, ap length spelled, length-append c.self.inside.held.records (spelling r), c.len.ensures, c.len-before.ensures)) refl
