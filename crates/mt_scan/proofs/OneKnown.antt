@@ -2,8 +2,7 @@
 use Rattle.std.proofs.Common.{◌≡◌, ℕ, List, refl, ap}
 use Rattle.mt_record.specs.declared.part_text.PartFault.{PartFault}
 use Rattle.mt_record.specs.declared.part_text.PartFault.TheVariants as of_part
-use Rattle.mt_record.proofs.OnePart.{one_part}
-use Rattle.mt_record.proofs.OnePartFault.{one_part_fault, part_or_fault}
+use Rattle.mt_record.proofs.PartFiles.{one_part_of, one_part_fault, part_not_both}
 use Rattle.mt_scan.specs.PartScans.{KnownPart, whole, broken, nameless, IsKnown}
 
 -- what is known of a part with this fault, unless it is `Memory`
@@ -17,14 +16,12 @@ no_header_broken : (number entries : ℕ) → of_part.Header ≡ of_part.Broken 
 no_header_broken number entries e = cc
 
 pub one_known : (bytes : List ℕ) (a b : KnownPart) → IsKnown bytes a → IsKnown bytes b → a ≡ b
-one_known bytes (whole p) (whole q) x y =
-    let same = one_part bytes _ _ p.entries q.entries p.end q.end x.1 y.1 in
-    λ i. whole (record { number = (same.0 i).number; begin = (same.0 i).begin; part = (same.0 i).part; parts = (same.0 i).parts; entries = same.1 i; end = same.2 i })
-one_known bytes (whole p) (broken n k) x y = absurd (part_or_fault bytes _ p.entries p.end (of_part.Broken n k) x.1 y)
-one_known bytes (whole p) nameless x y = absurd (part_or_fault bytes _ p.entries p.end of_part.Header x.1 y)
-one_known bytes (broken n k) (whole q) x y = absurd (part_or_fault bytes _ q.entries q.end (of_part.Broken n k) y.1 x)
+one_known bytes (whole p) (whole q) x y = ap whole (one_part_of bytes p q x y)
+one_known bytes (whole p) (broken n k) x y = absurd (part_not_both bytes p (of_part.Broken n k) x y)
+one_known bytes (whole p) nameless x y = absurd (part_not_both bytes p of_part.Header x y)
+one_known bytes (broken n k) (whole q) x y = absurd (part_not_both bytes q (of_part.Broken n k) y x)
 one_known bytes (broken n k) (broken m j) x y = ap known_from (one_part_fault bytes (of_part.Broken n k) (of_part.Broken m j) x y)
 one_known bytes (broken n k) nameless x y = absurd (no_header_broken n k (one_part_fault bytes of_part.Header (of_part.Broken n k) y x))
-one_known bytes nameless (whole q) x y = absurd (part_or_fault bytes _ q.entries q.end of_part.Header y.1 x)
+one_known bytes nameless (whole q) x y = absurd (part_not_both bytes q of_part.Header y x)
 one_known bytes nameless (broken m j) x y = absurd (no_header_broken m j (one_part_fault bytes of_part.Header (of_part.Broken m j) x y))
 one_known bytes nameless nameless x y = refl

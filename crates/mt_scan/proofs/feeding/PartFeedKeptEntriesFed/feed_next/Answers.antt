@@ -1,6 +1,5 @@
 use Rattle.std.proofs.Common.{sym, ◌∙◌}
-use Rattle.mt_record.specs.PartFeeding.{HoldsPart, IsPartLeft, IsPartFaulty}
-use Rattle.mt_record.proofs.Feeds.{fed_on}
+use Rattle.mt_record.proofs.PartFeeds.{part_fed_on}
 use Rattle.mt_scan.proofs.Steps.{has_fault}
 use Rattle.mt_scan.proofs.feeding.PartFeedKeptEntriesFed.feed_next.Goals as goal
 
@@ -11,4 +10,4 @@ pub returns-clause-stops : goal.returns-clause-stops
 returns-clause-stops c failed begun bytes more =
     let feed = c.feed.new.self in
     let there = has_fault c.feed.result feed.fault (sym c.is_ok.ensures.value ∙ failed) c.feed.ensures.kept in
-    fed_on HoldsPart IsPartLeft IsPartFaulty feed.so_far feed.held feed.fault there.0 bytes more there.1
+    part_fed_on feed there.0 bytes more there.1
