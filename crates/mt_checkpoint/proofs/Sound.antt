@@ -1,20 +1,24 @@
 -- What is read of a checkpoint that was written.
-use Rattle.std.proofs.Common.{◌≡◌, ◌∙◌, ℕ, zero, suc, ◌+◌, ◌<◌, ◌^◌, List, [], ◌∷◌, ◌++◌, length, get_or, refl, sym, ap, subst, inl, arith}
+use Rattle.std.proofs.Common.{◌≡◌, ◌⊎◌, ◌∙◌, ℕ, zero, suc, ◌+◌, ◌<◌, ◌^◌, false, List, [], ◌∷◌, ◌++◌, length, get_or, refl, sym, ap, subst, inl, inr, arith}
+use Rattle.std.specs.Prelude.{IsTrue}
 use Rattle.std.specs.List.{flat_map, AllByRecursion}
+use Rattle.std.proofs.lemmas.Bool.{false≢true}
 use Rattle.std.proofs.lemmas.List.{append-nil, map-append, length-map}
 use Rattle.mt_words.specs.declared.limits.Format.TheVariants.{Two}
 use Rattle.mt_words.specs.declared.record.Change.{Change}
-use Rattle.mt_words.specs.Limits.{widest}
+use Rattle.mt_words.specs.Limits.{limits_of, widest}
 use Rattle.mt_words.specs.Walks.{Pair, IsPair, IsMap, joined}
 use Rattle.mt_words.specs.Changes.{IsEntry}
 use Rattle.mt_words.specs.Built.{entry_of, mark_of}
 use Rattle.mt_record.specs.Heads.{head_bytes}
-use Rattle.mt_record.specs.Encoding.{head_of}
+use Rattle.mt_record.specs.Encoding.{segment_head}
+use Rattle.mt_record.specs.Opening.{text_of}
 use Rattle.mt_record.specs.Spelling.{spelling}
-use Rattle.mt_record.specs.Logs.{IsLog}
-use Rattle.mt_record.specs.Parts.{IsPart}
+use Rattle.mt_record.specs.Logs.{IsTorn, IsReading}
+use Rattle.mt_record.specs.Parts.{part_head_bytes, footer_bytes, IsPart, part_text_of, IsPartReading}
+use Rattle.mt_record.proofs.Records.{torn_some}
 use Rattle.mt_tree.proofs.Joins.{all_front, all_back}
-use Rattle.mt_checkpoint.specs.Checkpoints.{Checkpoint, HasPairs, head_of_part, entries_with, pairs_of, part_text, log_text}
+use Rattle.mt_checkpoint.specs.Checkpoints.{Checkpoint, HasPairs, head_of_part, entries_with, entries_text, pairs_of, part_text, part_header, part_reading, IsPartFile, log_header, log_reading, IsLogFile}
 
 all_at : {X : Type 0} (P : X → Type 0) (xs : List X) (i : ℕ) (d : X) → i < length xs → AllByRecursion P xs → P (get_or xs i d)
 all_at P [] i d below all = absurd (omega (arith, below))
@@ -31,7 +35,7 @@ lawful_entries version [] some fits all = tt
 lawful_entries version (pair ∷ pairs) some fits all =
     ((record { version = some; version_fits = fits; key = all.0.0; kind = (all.0.1, all.0.2) }, tt), lawful_entries version pairs some fits all.1)
 
-pub is_part : (pairs : List Pair) (checkpoint : Checkpoint) (part : ℕ) → IsMap pairs → HasPairs pairs checkpoint → part < length checkpoint.parts
+is_part : (pairs : List Pair) (checkpoint : Checkpoint) (part : ℕ) → IsMap pairs → HasPairs pairs checkpoint → part < length checkpoint.parts
     → IsPart (part_text checkpoint part) (head_of_part checkpoint part) (entries_with checkpoint.version (pairs_of checkpoint part)) checkpoint.cutoff
 is_part pairs checkpoint part map is below =
     let each = all_in_each IsPair checkpoint.parts (subst (AllByRecursion IsPair) (sym is.whole) map.1) in
@@ -44,6 +48,22 @@ is_part pairs checkpoint part map is below =
       count = omega (arith, few, length-map (pairs_of checkpoint part) (λ pair. entry_of checkpoint.version pair.0 pair.1));
     }
 
+-- the text of a file of the part is that of the part
+text_is : (salt : ℕ) (checkpoint : Checkpoint) (part : ℕ) (bytes : List ℕ) (is : IsPartFile salt checkpoint part bytes) → part_text checkpoint part ≡ part_text_of (part_header salt checkpoint part) is.bodies
+text_is salt checkpoint part bytes is =
+    let counted = length-map (pairs_of checkpoint part) (λ pair. entry_of checkpoint.version pair.0 pair.1) in
+    let front = part_head_bytes (head_of_part checkpoint part) in
+    let entries = entries_text checkpoint.version (pairs_of checkpoint part) in
+    ap (λ (n : ℕ). front ++ (entries ++ footer_bytes checkpoint.cutoff n)) counted ∙ ap (λ (l : List ℕ). front ++ l) (sym is.joins)
+
+pub part_is_read : (pairs : List Pair) (checkpoint : Checkpoint) (salt part : ℕ) (bytes : List ℕ) → IsMap pairs → HasPairs pairs checkpoint → part < length checkpoint.parts
+    → IsPartFile salt checkpoint part bytes → IsPartReading bytes (part_reading checkpoint part)
+part_is_read pairs checkpoint salt part bytes map has below is = record {
+  text = part_text checkpoint part;
+  opens = inr (record { header = part_header salt checkpoint part; bodies = is.bodies; begins = is.begins; is_text = text_is salt checkpoint part bytes is });
+  is_part = (Two, is_part pairs checkpoint part map has below);
+}
+
 entries_joined : (version : ℕ) (lists : List (List Pair)) → flat_map (entries_with version) lists ≡ entries_with version (joined lists)
 entries_joined version [] = refl
 entries_joined version (list ∷ lists) =
@@ -52,12 +72,23 @@ entries_joined version (list ∷ lists) =
 pub all_entries : (pairs : List Pair) (checkpoint : Checkpoint) → HasPairs pairs checkpoint → flat_map (entries_with checkpoint.version) checkpoint.parts ≡ entries_with checkpoint.version pairs
 all_entries pairs checkpoint is = entries_joined checkpoint.version checkpoint.parts ∙ ap (entries_with checkpoint.version) is.whole
 
-pub is_log : (pairs : List Pair) (checkpoint : Checkpoint) → HasPairs pairs checkpoint → IsLog (log_text checkpoint) (head_of Two checkpoint.cutoff) (mark_of (checkpoint.cutoff + 1) ∷ []) []
-is_log pairs checkpoint is =
-    let mark = spelling (mark_of (checkpoint.cutoff + 1)) in
-    record {
-      spelled = ap (λ (z : List ℕ). head_bytes (head_of Two checkpoint.cutoff) ++ z) (sym (append-nil (mark ++ []) ∙ append-nil mark));
-      is_head = record { from = omega (arith, is.cutoff); segment = tt };
-      lawful = ((omega (arith, is.cutoff), tt), omega arith, tt);
-      ends = inl refl;
+pub log_is_read : (pairs : List Pair) (checkpoint : Checkpoint) (salt : ℕ) (bytes : List ℕ) → HasPairs pairs checkpoint → IsLogFile salt checkpoint bytes → IsReading bytes (log_reading checkpoint)
+log_is_read pairs checkpoint salt bytes has is =
+    let header = log_header salt checkpoint in
+    let mark = spelling (mark_of (checkpoint.cutoff + 1)) in record {
+      text = text_of header (mark ∷ []);
+      ended = false;
+      opens = inr (record { header = header; bodies = mark ∷ []; end = []; is_file = record { begins = is; ends = inl refl }; is_text = refl; ends = refl });
+      tail = [];
+      is_log = record {
+        spelled = ap (λ (z : List ℕ). head_bytes (segment_head checkpoint.cutoff 0 0) ++ z) (sym (append-nil (mark ++ [])));
+        is_head = record { from = omega (arith, has.cutoff); segment = (refl, omega arith, omega arith) };
+        lawful = ((omega (arith, has.cutoff), tt), omega arith, tt);
+        ends = inl refl;
+      };
+      torn = (λ not. absurd (false≢true not), whole);
     }
+  where
+    whole : IsTrue false ⊎ IsTorn (limits_of Two) [] → IsTrue false
+    whole (inl not) = not
+    whole (inr torn) = absurd (omega (arith, torn_some (limits_of Two) [] torn))

@@ -1,15 +1,20 @@
 -- A store as the parts of one checkpoint, and the log that makes it count.
-use Rattle.std.specs.Prelude.{◌≡◌, ◌≢◌, ◌⊎◌, ◌≤◌, ◌<◌, ◌^◌, ◌+◌, ◌-◌, ℕ, List, [], ◌++◌, length, map, slice_index_or}
+use Rattle.std.specs.Prelude.{◌≡◌, ◌≢◌, ◌⊎◌, ◌≤◌, ◌<◌, ◌^◌, ◌+◌, ◌-◌, ℕ, false, List, [], ◌∷◌, ◌++◌, length, map, slice_index_or}
 use Rattle.std.specs.List.{flat_map, AllByRecursion}
+use Rattle.mt_block.specs.declared.header.Header.{Header}
+use Rattle.mt_block.specs.declared.part_header.PartHeader.{PartHeader}
+use Rattle.mt_block.specs.Blocks.{Begins}
+use Rattle.mt_block.specs.Parts.{BeginsPart}
+use Rattle.mt_block.specs.Sealing.{joined as joined_bodies}
 use Rattle.mt_words.specs.declared.record.Change.{Change}
 use Rattle.mt_words.specs.declared.limits.Format.TheVariants.{Two}
 use Rattle.mt_words.specs.Walks.{Pair, joined}
 use Rattle.mt_words.specs.Built.{entry_of, mark_of}
 use Rattle.mt_record.specs.declared.part_text.PartHead.{PartHead}
-use Rattle.mt_record.specs.Heads.{head_bytes}
-use Rattle.mt_record.specs.Encoding.{head_of}
+use Rattle.mt_record.specs.Encoding.{segment_head}
+use Rattle.mt_record.specs.Logs.{LogReading}
 use Rattle.mt_record.specs.Spelling.{spelling}
-use Rattle.mt_record.specs.Parts.{part_head, part_bytes, entry_spelling}
+use Rattle.mt_record.specs.Parts.{PartReading, part_head, part_bytes, entry_spelling, footer_bytes}
 use Rattle.mt_checkpoint.specs.declared.checkpoint.TheConstants.{MOST_PARTS}
 use Rattle.mt_checkpoint.specs.declared.plan_fault.PlanFault.{PlanFault}
 use Rattle.mt_checkpoint.specs.declared.plan_fault.PlanFault.TheVariants.{Timestamp, Version, Parts, Memory}
@@ -33,17 +38,46 @@ entries_text version pairs = flat_map entry_spelling (entries_with version pairs
 abbrev pub pairs_of : Checkpoint → ℕ → List Pair
 pairs_of checkpoint part = slice_index_or checkpoint.parts part []
 
--- the header of this part
+-- the header of the text of this part
 abbrev pub head_of_part : Checkpoint → ℕ → PartHead
 head_of_part checkpoint part = part_head Two checkpoint.number checkpoint.cutoff part (length checkpoint.parts)
 
--- the bytes of this part: its header, the entries of its pairs, and its footer; the checkpoint begins and ends at one timestamp
+-- the text of this part: a header of format 2, the entries of its pairs, and its footer; the checkpoint begins and ends at one timestamp
 abbrev pub part_text : Checkpoint → ℕ → List ℕ
 part_text checkpoint part = part_bytes (head_of_part checkpoint part) (entries_with checkpoint.version (pairs_of checkpoint part)) checkpoint.cutoff
 
--- the bytes of a log that makes the checkpoint count: a header that is from its end, and a mark above it
-abbrev pub log_text : Checkpoint → List ℕ
-log_text checkpoint = head_bytes (head_of Two checkpoint.cutoff) ++ spelling (mark_of (checkpoint.cutoff + 1))
+-- what this part says
+abbrev pub part_reading : Checkpoint → ℕ → PartReading
+part_reading checkpoint part = record {
+  number = checkpoint.number;
+  begin = checkpoint.cutoff;
+  part = part;
+  parts = length checkpoint.parts;
+  entries = entries_with checkpoint.version (pairs_of checkpoint part);
+  end = checkpoint.cutoff;
+}
+
+-- the header of the file of this part, with this salt
+abbrev pub part_header : ℕ → Checkpoint → ℕ → PartHeader
+part_header salt checkpoint part = record { salt = salt; number = checkpoint.number; part = part; parts = length checkpoint.parts; begin = checkpoint.cutoff }
+
+-- the bytes are a file of this part, with this salt: blocks of the entries of its pairs and of its footer
+pub record IsPartFile (salt : ℕ) (checkpoint : Checkpoint) (part : ℕ) (bytes : List ℕ) : Type 0 where
+  pub bodies : List (List ℕ)
+  pub begins : BeginsPart bytes (part_header salt checkpoint part) bodies []
+  pub joins : joined_bodies bodies ≡ entries_text checkpoint.version (pairs_of checkpoint part) ++ footer_bytes checkpoint.cutoff (length (pairs_of checkpoint part))
+
+-- what the log that makes the checkpoint count says: it is from the checkpoint's end, and has a mark above it
+abbrev pub log_reading : Checkpoint → LogReading
+log_reading checkpoint = record { head = segment_head checkpoint.cutoff 0 0; records = mark_of (checkpoint.cutoff + 1) ∷ []; torn = false }
+
+-- the header of its file, with this salt: it is the first segment of the one worker
+abbrev pub log_header : ℕ → Checkpoint → Header
+log_header salt checkpoint = record { salt = salt; worker = 0; segment = 0; workers = 1; from = checkpoint.cutoff }
+
+-- the bytes are a file of this log, with this salt: its mark stands in one block
+abbrev pub IsLogFile : ℕ → Checkpoint → List ℕ → Type 0
+IsLogFile salt checkpoint bytes = Begins bytes (log_header salt checkpoint) (spelling (mark_of (checkpoint.cutoff + 1)) ∷ []) []
 
 -- The checkpoint has these pairs, in order: each in exactly one part. Its numbers fit their fields, and a timestamp and a version are left above them.
 pub record HasPairs (pairs : List Pair) (checkpoint : Checkpoint) : Type 0 where
@@ -56,7 +90,7 @@ pub record HasPairs (pairs : List Pair) (checkpoint : Checkpoint) : Type 0 where
   pub version : 0 < checkpoint.version
   pub newest : checkpoint.version < 2 ^ 64 - 1
 
--- each part has at most this many bytes, or a single entry
+-- the text of each part has at most this many bytes, or a single entry
 abbrev pub ArePartsWithin : ℕ → Checkpoint → Type 0
 ArePartsWithin limit checkpoint = (part : ℕ) → (length (pairs_of checkpoint part) ≤ 1) ⊎ (length (part_text checkpoint part) ≤ limit)
 

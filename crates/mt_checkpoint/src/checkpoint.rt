@@ -1,15 +1,15 @@
 //! A checkpoint of a store.
-ghost use Rattle.std.specs.Prelude.{◌≡◌, ◌≤◌, ◌<◌, ◌+◌, ◌++◌, max, length, IfErr, IfOk, OnOk, OnErr};
+ghost use Rattle.std.specs.Prelude.{◌≡◌, ◌<◌, ℕ, List, max, length, IfErr, IfOk, OnOk};
 ghost use Rattle.std.specs.Io.KnownBytes.{Appends};
 ghost use Rattle.mt_words.specs.Walks.{KeysRise};
 ghost use Rattle.mt_tree.specs.Trees.{tree_walk};
-ghost use Rattle.mt_checkpoint.specs.Checkpoints.{HasPairs, ArePartsWithin, IsPlanFault, NeedsParts, part_text, log_text};
+ghost use Rattle.mt_checkpoint.specs.Checkpoints.{HasPairs, ArePartsWithin, IsPlanFault, NeedsParts, IsPartFile, IsLogFile};
 
-use crate::encode::{write_footer, write_header};
-use crate::entries::write_entries;
+use crate::entries::write_blocks;
 use crate::plan_fault::PlanFault;
 use crate::planning::{Stretch, stretches_of};
-use mt_record::{encode_log_header_2, encode_record};
+use mt_block::{Header, PartHeader, append_block};
+use mt_record::encode_record;
 use mt_tree::Tree;
 use mt_words::{Memory, Record};
 use std::alloc::Global;
@@ -45,7 +45,7 @@ impl<'a> Model for Checkpoint<'a> {
       parts = map (within (tree_walk c.tree.now)) c.stretches.items;
     } };
 
-    ghost invariant = { λ c. (c.cutoff < 2 ^ 64 - 1) × (length c.stretches.items < 2 ^ 16) };
+    ghost invariant = { λ c. (c.cutoff < 2 ^ 64 - 1) × (length c.stretches.items < 2 ^ 16) × (c.number < 2 ^ 32) };
 }
 
 impl<'a> Checkpoint<'a> {
@@ -92,28 +92,54 @@ impl<'a> Checkpoint<'a> {
         self.stretches.len() as u16
     }
 
-    /// Writes part `part`. Parts count from 0. Err: write error. The contract does not say how much was written then.
-    pub fn write_part<W: Write>(&self, part: u16, out: &mut W) -> io::Result<()>
+    /// Writes part `part`, as a file of format 4 with this salt, which no other file has. Parts count from 0. Err: write
+    /// error; out of memory. The contract does not say how much was written then.
+    pub fn write_part<W: Write>(
+        &self,
+        alloc: Global,
+        salt: u64,
+        part: u16,
+        out: &mut W,
+    ) -> io::Result<()>
         requires { part < length self.now.parts }
-        ensures { OnOk result (Appends (W.contents out.old) (W.contents out.new) (part_text self.now part)) }
+        ensures { OnOk result ((bytes : List ℕ) × IsPartFile salt self.now part bytes × Appends (W.contents out.old) (W.contents out.new) bytes) }
     {
-        write_header(self.number, self.cutoff, part, self.parts(), out)?;
+        let header = PartHeader {
+            salt,
+            number: self.number,
+            part,
+            parts: self.parts(),
+            begin: self.cutoff,
+        };
+        out.write_all(&header.bytes(alloc)?)?;
         let stretch = &self.stretches[part as usize];
-        let count = write_entries(self.tree, self.version, stretch, out)?;
-        write_footer(self.cutoff, count, out)
+        write_blocks(
+            alloc,
+            header.mark(),
+            self.tree,
+            self.version,
+            stretch,
+            self.cutoff,
+            out,
+        )
     }
 
-    /// Appends the bytes of a log that makes the checkpoint count. Err: out of memory; nothing is appended.
-    pub fn append_log(&self, out: &mut Vec<u8>) -> Result<(), Memory>
-        ensures ok { OnOk result (out.new.items ≡ out.old.items ++ log_text self.now) }
-        ensures err { OnErr result (out.new.items ≡ out.old.items) }
+    /// Returns the bytes of a log that makes the checkpoint count, of format 4, with this salt, which no other file has. Err:
+    /// out of memory.
+    pub fn log(&self, alloc: Global, salt: u64) -> Result<Vec<u8>, Memory>
+        ensures { IfOk result (λ log. IsLogFile salt self.now log.items) }
     {
-        let start = out.len();
-        encode_log_header_2(self.cutoff, out)?;
-        let outcome = encode_record(&Record::mark(self.cutoff + 1), out);
-        if outcome.is_err() {
-            out.truncate(start);
-        }
-        outcome
+        let header = Header {
+            salt,
+            worker: 0,
+            segment: 0,
+            workers: 1,
+            from: self.cutoff,
+        };
+        let mut mark = Vec::new(alloc);
+        encode_record(&Record::mark(self.cutoff + 1), &mut mark)?;
+        let mut log = header.bytes(alloc)?;
+        append_block(header.mark(), &mark, &mut log)?;
+        Ok(log)
     }
 }

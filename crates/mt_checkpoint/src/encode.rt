@@ -1,37 +1,15 @@
-//! Writes the header, the entries and the footer of a part to a writer.
+//! Writes the entries and the footer of a part to a writer.
 ghost use Rattle.std.specs.Prelude.{◌≡◌, ◌<◌, ◌^◌, ℕ, length, OnOk};
 ghost use Rattle.std.specs.Io.KnownBytes.{Appends};
-ghost use Rattle.mt_words.specs.declared.limits.Format.TheVariants.{Two};
 ghost use Rattle.mt_words.specs.Limits.{widest};
 ghost use Rattle.mt_words.specs.Words.{IsKey};
 ghost use Rattle.mt_words.specs.Built.{entry_of};
-ghost use Rattle.mt_record.specs.Parts.{part_head, part_head_bytes, entry_spelling, footer_bytes};
+ghost use Rattle.mt_record.specs.Parts.{entry_spelling, footer_bytes};
 ghost use Rattle.mt_record.specs.Spelling.{change_bytes};
 
 use byteorder::{BigEndian, WriteBytesExt};
-use mt_record::PART;
-use mt_words::{Format, PackedColumns};
+use mt_words::PackedColumns;
 use std::io::{self, Write};
-
-/// Writes the header of a part: part `part` of the `parts` parts of checkpoint `number`, which begins at `begin`. Err:
-/// write error.
-pub fn write_header<W: Write>(
-    number: u32,
-    begin: u64,
-    part: u16,
-    parts: u16,
-    out: &mut W,
-) -> io::Result<()>
-    ensures { OnOk result
-        (Appends (W.contents out.old) (W.contents out.new) (part_head_bytes (part_head Two number begin part parts))) }
-{
-    out.write_all(PART)?;
-    out.write_u8(Format::Two.limits().digit)?;
-    out.write_u32::<BigEndian>(number)?;
-    out.write_u64::<BigEndian>(begin)?;
-    out.write_u16::<BigEndian>(part)?;
-    out.write_u16::<BigEndian>(parts)
-}
 
 /// Writes the footer of a part with `count` entries. Err: write error.
 pub fn write_footer<W: Write>(end: u64, count: u32, out: &mut W) -> io::Result<()>

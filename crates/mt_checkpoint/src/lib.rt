@@ -2,16 +2,15 @@
 //!
 //! `Checkpoint::plan` walks a tree once, writes nothing, and decides which pairs each part has. `write_part` writes a part
 //! to any writer, straight from the tree. So the caller creates one file after another, or several at once.
-//! `append_log` appends the bytes of a log that makes the checkpoint count.
+//! `log` returns the bytes of a log that makes the checkpoint count. All these files are of format 4, with a salt each.
 //!
 //! ```
 //! let checkpoint = Checkpoint::plan(alloc, &tree, number, cutoff, version, limit)?;
 //! for part in 0..checkpoint.parts() {
-//!     let mut file = BufWriter::new(alloc, File::create(alloc, name_of(part))?)?;
-//!     checkpoint.write_part(part, &mut file)?;
-//!     file.flush()?;
+//!     let mut file = File::create(alloc, name_of(part))?;
+//!     checkpoint.write_part(alloc, salt + u64::from(part), part, &mut file)?;
 //! }
-//! checkpoint.append_log(&mut log)?;
+//! let log = checkpoint.log(alloc, salt + u64::from(checkpoint.parts()))?;
 //! ```
 //!
 //! Begin with `checkpoint.rt`, and with `specs/Checkpoints.antt`, which says what is written.
