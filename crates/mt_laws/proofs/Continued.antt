@@ -28,12 +28,12 @@ use Rattle.mt_scan.specs.Segments.{IsGap}
 use Rattle.mt_recover.specs.Recovery.{AreReadings, Facts, begin_of, entry_updates, survivors, records_of, IsStoreOf}
 use Rattle.mt_recover.proofs.OneVerdict.{same_facts}
 use Rattle.mt_words.specs.Built.{mark_of}
-use Rattle.mt_record.specs.Resuming.{below, marks_of, resumed, IsResumed}
-use Rattle.mt_laws.specs.Resuming.{IsResume, IsContinued, IsUpdateWithin, GoesOnFrom}
+use Rattle.mt_record.specs.Resuming.{below, marks_of, resumed}
+use Rattle.mt_laws.specs.Resuming.{IsReplaced, IsResume, IsContinued, IsUpdateWithin, GoesOnFrom}
 use Rattle.mt_laws.proofs.Lost.{behind_latest}
 use Rattle.mt_laws.proofs.Windows.{within, not_early, not_late}
 use Rattle.mt_laws.proofs.Agreeing.{AgreeBelow, agreeing_survive}
-use Rattle.mt_laws.proofs.Resumed.{time_of, all_late, only_marks, below_resumed, reading_after}
+use Rattle.mt_laws.proofs.Resumed.{time_of, all_late, only_marks, below_resumed, replaced_reading}
 use Rattle.mt_laws.proofs.Paired.{partner_of, zip_weaker, zip_map, zip_through, zip_back}
 use Rattle.mt_laws.proofs.ResumedLogs.{ClaimsNoMore, gaps_stay}
 use Rattle.mt_laws.proofs.ResumedStores.{cutoff_fits}
@@ -75,21 +75,21 @@ continued cutoff bytes after log new torn fits is is_after =
 
 -- the bytes of a log, what replaced it, and what came of that
 abbrev Follows : ℕ → LogReading → LogReading → Type 0
-Follows cutoff log now = (after : List ℕ) × ((between : List ℕ) × ((before : List ℕ) × IsReading before log × IsResumed cutoff before between) × IsContinued between after) × IsReading after now
+Follows cutoff log now = (after : List ℕ) × ((between : List ℕ) × ((before : List ℕ) × IsReading before log × IsReplaced cutoff before between) × IsContinued between after) × IsReading after now
 
 one_goes_on : (cutoff : ℕ) → cutoff < 2 ^ 64 → (log now : LogReading) → Follows cutoff log now → LogGoesOn cutoff log now
 one_goes_on cutoff fits log now (after, (between, (before, is, to), on), is_now) =
-    let new = reading_after cutoff before between log fits is to in
+    let new = replaced_reading cutoff before between log is to in
     let same : on.log ≡ resumed cutoff log = one_reading_of between on.log (resumed cutoff log) on.is_reading new in
     let made : record on.log { records = on.log.records ++ on.new; torn = on.torn } ≡ now = one_reading_of after _ now on.is_after is_now in
     let goes = ap (λ (l : LogReading). record l { records = l.records ++ on.new; torn = on.torn }) (sym same) ∙ made in
     subst (LogGoesOn cutoff log) goes (continued cutoff before after log on.new on.torn fits is (subst (IsReading after) (sym goes) is_now))
 
 all_go_on : (cutoff : ℕ) (logs between later : List (List ℕ)) (readings nows : List LogReading) → cutoff < 2 ^ 64 → AreReadings logs readings
-    → AllZip (IsResumed cutoff) logs between → AllZip IsContinued between later → AreReadings later nows → AllZip (LogGoesOn cutoff) readings nows
+    → AllZip (IsReplaced cutoff) logs between → AllZip IsContinued between later → AreReadings later nows → AllZip (LogGoesOn cutoff) readings nows
 all_go_on cutoff logs between later readings nows fits read to on read_now =
     zip_weaker (Follows cutoff) (LogGoesOn cutoff) readings nows (one_goes_on cutoff fits)
-    (zip_through _ IsReading readings later nows (zip_through _ IsContinued readings between later (zip_back IsReading (IsResumed cutoff) logs readings between read to) on) read_now)
+    (zip_through _ IsReading readings later nows (zip_through _ IsContinued readings between later (zip_back IsReading (IsReplaced cutoff) logs readings between read to) on) read_now)
 
 -- ---- all logs
 
@@ -235,10 +235,9 @@ none_comes_back logs parts between left readings pairs store resume read u at =
     let facts = store.basis.facts in
     let found = of_log_record 0 readings u at in
     let bytes = partner_of IsReading between readings found.0 read found.1 in
-    let before = partner_of (IsResumed facts.cutoff) logs between bytes.0 resume.each bytes.1 in
+    let before = partner_of (IsReplaced facts.cutoff) logs between bytes.0 resume.each bytes.1 in
     let to = before.2 in
-    let fits = cutoff_fits logs facts.readings facts.cutoff facts.read facts.is_cutoff in
-    let same : found.0 ≡ resumed facts.cutoff to.log = one_reading_of bytes.0 found.0 (resumed facts.cutoff to.log) bytes.2 (reading_after facts.cutoff before.0 bytes.0 to.log fits to.is_reading to) in
+    let same : found.0 ≡ resumed facts.cutoff to.log = one_reading_of bytes.0 found.0 (resumed facts.cutoff to.log) bytes.2 to.says in
     let r = found.2.0 in
     let early = no_late_record facts.cutoff to.log.records r (subst (λ (l : LogReading). Contains l.records r) same found.2.1) found.2.2.1 in
     subst (λ (time : ℕ). time < facts.cutoff) found.2.2.0 early

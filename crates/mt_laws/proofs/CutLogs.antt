@@ -1,7 +1,8 @@
 -- A beginning of a log is a log.
 use Rattle.std.proofs.Common.{◌≡◌, ◌⊎◌, inl, inr, ℕ, List, [], ◌∷◌, ◌++◌, length, refl, sym, ap, ◌∙◌, subst, append_assoc, arith}
 use Rattle.std.proofs.lemmas.List.{append-nil}
-use Rattle.std.specs.Prelude.{◌==◌, not}
+use Rattle.std.specs.Prelude.{◌==◌, ◌||◌, ◌↔◌, Bool, true, false, IsTrue, not}
+use Rattle.std.proofs.lemmas.Bool.{false≢true}
 use Rattle.std.specs.List.{flat_map}
 use Rattle.mt_words.specs.declared.limits.Limits.{Limits}
 use Rattle.mt_words.specs.Limits.{limits_of}
@@ -10,13 +11,15 @@ use Rattle.mt_record.specs.declared.feed.head.Head.{Head}
 use Rattle.mt_record.specs.Heads.{head_bytes}
 use Rattle.mt_record.specs.Fronts.{GoTogether}
 use Rattle.mt_record.specs.Spelling.{spelling, IsRecordLength}
-use Rattle.mt_record.specs.Logs.{AreRecords, IsTorn, LogReading, IsReading}
+use Rattle.mt_record.specs.Opening.{Opens}
+use Rattle.mt_record.specs.Logs.{AreRecords, IsTorn, IsLog, LogReading, IsReading}
 use Rattle.mt_record.proofs.Feeds.{apart, behind_on}
 use Rattle.mt_record.proofs.OneLog.{same_head}
-use Rattle.mt_record.proofs.Opened.{plain_log, plain_reading}
+use Rattle.mt_record.proofs.Opened.{plain_text, plain_log, plain_reading}
 use Rattle.mt_record.proofs.Records.{tells_torn}
+use Rattle.mt_record.proofs.SealedLogs.{text_of_file}
 use Rattle.mt_record.proofs.Unique.{same_split}
-use Rattle.mt_writer.specs.Files.{IsCutOf}
+use Rattle.mt_writer.specs.Files.{HasHeader, IsCutOf, IsCutFileOf}
 use Rattle.mt_laws.specs.Crashes.{SaysBeginning}
 use Rattle.mt_laws.proofs.CutFrames.{cut_end, cut_record}
 
@@ -99,4 +102,47 @@ cut_log left written log is cut =
           })
           (tells_torn limits first.rest (length first.rest == 0) refl first.ends);
       begins = record { head = refl; lost = first.lost; records = first.all };
+    }
+
+-- ---- the file
+
+-- whether the text has a torn tail, or something torn follows it
+pub torn_of : (limits : Limits) (tail : List ℕ) (ended torn : Bool) → IsTrue torn ↔ IsTorn limits tail → IsTrue (ended || torn) ↔ (IsTrue ended ⊎ IsTorn limits tail)
+torn_of limits tail true torn tells = (λ _. inl refl, λ _. refl)
+torn_of limits tail false torn tells = (λ is. inr (tells.0 is), λ either. elim either as (λ _. IsTrue torn) [ inl wrong ↦ absurd (false≢true wrong) | inr is ↦ tells.1 is ])
+
+-- what the text says
+pub record SaysText (text : List ℕ) (log : LogReading) : Type 0 where
+  pub tail : List ℕ
+  pub is_log : IsLog text log.head log.records tail
+  pub torn : IsTrue log.torn ↔ IsTorn (limits_of log.head.format) tail
+
+-- a file says what its text says
+pub file_says : (file text : List ℕ) (ended : Bool) (log : LogReading) → Opens file text ended → SaysText text log → IsReading file (record log { torn = ended || log.torn })
+file_says file text ended log opens says = record {
+  text = text;
+  ended = ended;
+  opens = opens;
+  tail = says.tail;
+  is_log = says.is_log;
+  torn = torn_of (limits_of log.head.format) says.tail ended log.torn says.torn;
+}
+
+-- a text that begins with a header is read as what it says
+pub text_says : (text : List ℕ) (log : LogReading) → HasHeader text → IsReading text log → SaysText text log
+text_says text log header is =
+    let own = plain_text text is.text is.ended header.head header.more header.spelled is.opens in record {
+      tail = is.tail;
+      is_log = plain_log text log is header.head header.more header.spelled;
+      torn = (λ t. elim (is.torn.0 t) as (λ _. IsTorn (limits_of log.head.format) is.tail) [ inl ended ↦ absurd (false≢true (sym own.1 ∙ ended)) | inr torn ↦ torn ], λ torn. is.torn.1 (inr torn));
+    }
+
+-- what is left of a file says a beginning of what was written
+pub cut_file : (left written : List ℕ) (log : LogReading) → IsReading written log → IsCutFileOf left written → SaysBeginning left log
+cut_file left written log is cut =
+    let whole = text_of_file written cut.whole cut.ended log cut.opens_written is in
+    let said = cut_log cut.text cut.whole (record log { torn = whole.0 }) whole.1 cut.is_cut in record {
+      log = record said.log { torn = cut.torn || said.log.torn };
+      is_reading = file_says left cut.text cut.torn said.log cut.opens (text_says cut.text said.log cut.is_cut.header said.is_reading);
+      begins = record { head = said.begins.head; lost = said.begins.lost; records = said.begins.records };
     }

@@ -1,89 +1,56 @@
 -- The parts of a checkpoint that was written make it up, in any order, and no other checkpoint.
-use Rattle.std.proofs.Common.{◌≡◌, inr, ℕ, zero, suc, ◌+◌, ◌<◌, ◌≤◌, true, List, [], ◌∷◌, length, get_or, set, map, Contains, Some, refl, sym, ap, ◌∙◌, subst, arith}
-use Rattle.std.specs.List.{flat_map, range_with_len, swap, AllByRecursion}
+use Rattle.std.proofs.Common.{◌≡◌, inr, ℕ, zero, suc, ◌+◌, ◌<◌, ◌≤◌, true, List, [], ◌∷◌, length, map, Contains, Some, refl, sym, ap, ◌∙◌, subst, arith}
+use Rattle.std.specs.List.{flat_map, range_with_len, AllByRecursion, AllZip}
 use Rattle.std.specs.List.Sorted.{IsPermutation}
 use Rattle.std.proofs.lemmas.Bool.{eq-eqb, eqb-true}
-use Rattle.std.proofs.lemmas.List.{length-map, map-set, get_or-map}
 use Rattle.std.proofs.lemmas.List.Folds.{flat_map-map}
 use Rattle.std.proofs.lemmas.List.FromFn.{length-map-range_with_len, fill_by_all}
-use Rattle.std.proofs.lemmas.List.Sorted.{Contains-permutation, IsPermutation-sym, IsPermutation-swap, IsPermutation-trans, IsPermutation-refl, IsPermutation-keeps, IsPermutation-map}
-use Rattle.mt_words.specs.declared.limits.Format.TheVariants.{Two}
+use Rattle.std.proofs.lemmas.List.Sorted.{Contains-permutation, IsPermutation-sym, IsPermutation-map}
 use Rattle.mt_words.specs.Words.{IsBelow, AreRising}
 use Rattle.mt_words.specs.Walks.{Pair, KeysRise, IsMap}
 use Rattle.mt_words.proofs.Elements.{head_in}
-use Rattle.mt_record.specs.Parts.{PartReading}
-use Rattle.mt_checkpoint.specs.Checkpoints.{Checkpoint, HasPairs, entries_with, pairs_of, part_text}
-use Rattle.mt_checkpoint.proofs.Sound.{is_part, all_entries}
+use Rattle.mt_record.specs.Parts.{PartReading, IsPartReading}
+use Rattle.mt_checkpoint.specs.Checkpoints.{Checkpoint, HasPairs, entries_with, pairs_of, part_reading}
+use Rattle.mt_checkpoint.proofs.Sound.{all_entries}
 use Rattle.mt_scan.specs.PartScans.{KnownPart, whole}
 use Rattle.mt_scan.specs.Choice.{CheckpointReading, belongs_to, parts_of, AreInPlace, entry_keys, IsValid, IsChosenOf}
 use Rattle.mt_scan.proofs.OneChoice.{one_valid}
-use Rattle.mt_replay.proofs.Members.{of_each, of_map, of_filter, all_from}
+use Rattle.mt_replay.proofs.Members.{of_map, of_filter}
 use Rattle.mt_recover.specs.Recovery.{AreKnown, Facts}
 use Rattle.mt_recover.proofs.OneVerdict.{same_facts}
 use Rattle.mt_laws.specs.Fresh.{AreAllParts, reading_with}
 
--- ---- an order of a list that was mapped
-
-map_swapped : {A B : Type 0} (f : A → B) (xs : List A) (i j : ℕ) → i < length xs → j < length xs → map f (swap xs i j) ≡ swap (map f xs) i j
-map_swapped f [] i j fits fits' = refl
-map_swapped f (x ∷ xs) i j fits fits' =
-    let all = x ∷ xs in
-    map-set f (set all i (get_or all j x)) j (get_or all i x)
-    ∙ (λ t. set ((map-set f all i (get_or all j x) ∙ ap (set (map f all) i) (sym (get_or-map f all j x (f x) fits'))) t) j (sym (get_or-map f all i x (f x) fits) t))
-
--- a list is in an order of mapped elements: it is mapped from an order of them
-pub mapped_from : {A B : Type 0} (f : A → B) (xs : List A) (ys : List B) → IsPermutation (map f xs) ys → (order : List A) × IsPermutation xs order × (map f order ≡ ys)
-mapped_from {A} {B} f xs ys moved =
-    IsPermutation-keeps (map f xs) (λ zs. (order : List A) × IsPermutation xs order × (map f order ≡ zs)) (xs, IsPermutation-refl xs, refl) (λ zs i j fits fits' found.
-    let order = found.0 in
-    let long : length zs ≡ length order = ap length (sym found.2) ∙ length-map order f in
-    let first : i < length order = omega (arith, fits, long) in
-    let second : j < length order = omega (arith, fits', long) in (
-      swap order i j,
-      IsPermutation-trans xs order (swap order i j) found.1 (IsPermutation-swap order (swap order i j) i j first second refl),
-      map_swapped f order i j first second ∙ ap (λ (l : List B). swap l i j) found.2,
-    ))
-    ys moved
-
 -- ---- what the parts say
-
--- what this part says
-abbrev part_at : Checkpoint → ℕ → PartReading
-part_at checkpoint part =
-    record { number = checkpoint.number; begin = checkpoint.cutoff; part = part; parts = length checkpoint.parts; entries = entries_with checkpoint.version (pairs_of checkpoint part); end = checkpoint.cutoff }
 
 -- what is known of it
 abbrev known_at : Checkpoint → ℕ → KnownPart
-known_at checkpoint part = whole (part_at checkpoint part)
+known_at checkpoint part = whole (part_reading checkpoint part)
 
 -- the numbers of its parts
 abbrev numbers : Checkpoint → List ℕ
 numbers checkpoint = range_with_len 0 (length checkpoint.parts)
 
-all_known : (pairs : List Pair) (checkpoint : Checkpoint) (order : List ℕ) → IsMap pairs → HasPairs pairs checkpoint
-    → AllByRecursion (λ (part : ℕ). part < length checkpoint.parts) order → AreKnown (map (part_text checkpoint) order) (map (known_at checkpoint) order)
-all_known pairs checkpoint [] is_map is below = tt
-all_known pairs checkpoint (part ∷ order) is_map is below =
-    ((Two, is_part pairs checkpoint part is_map is below.0), all_known pairs checkpoint order is_map is below.1)
+all_known : (checkpoint : Checkpoint) (parts : List (List ℕ)) (order : List ℕ) → AllZip (λ bytes part. IsPartReading bytes (part_reading checkpoint part)) parts order
+    → AreKnown parts (map (known_at checkpoint) order)
+all_known checkpoint [] [] are = tt
+all_known checkpoint [] (part ∷ order) are = are
+all_known checkpoint (bytes ∷ parts) [] are = are
+all_known checkpoint (bytes ∷ parts) (part ∷ order) are = (are.0, all_known checkpoint parts order are.1)
 
 -- all of them belong to the checkpoint
 all_belong : (checkpoint : Checkpoint) (order : List ℕ) → parts_of checkpoint.number (map (known_at checkpoint) order) ≡ map (known_at checkpoint) order
 all_belong checkpoint [] = refl
 all_belong checkpoint (part ∷ order) = rw (eq-eqb checkpoint.number checkpoint.number refl) (ap (λ (l : List KnownPart). known_at checkpoint part ∷ l) (all_belong checkpoint order))
 
-numbers_below : (n first count : ℕ) → first + count ≤ n → AllByRecursion (λ (part : ℕ). part < n) (range_with_len first count)
-numbers_below n first zero fits = tt
-numbers_below n first (suc count) fits = (omega (arith, fits), numbers_below n (first + 1) count (omega (arith, fits)))
-
 -- ---- they make it up
 
 in_place_from : (pairs : List Pair) (checkpoint : Checkpoint) (place count : ℕ)
-    → AreInPlace (reading_with checkpoint pairs) (length checkpoint.parts) place (map (part_at checkpoint) (range_with_len place count))
+    → AreInPlace (reading_with checkpoint pairs) (length checkpoint.parts) place (map (part_reading checkpoint) (range_with_len place count))
 in_place_from pairs checkpoint place zero = tt
 in_place_from pairs checkpoint place (suc count) =
     let next : place + 1 ≡ suc place = omega arith in (
       record { stands = refl; parts = refl; begin_agrees = refl; end_agrees = refl },
-      subst (λ (n : ℕ). AreInPlace (reading_with checkpoint pairs) (length checkpoint.parts) n (map (part_at checkpoint) (range_with_len (place + 1) count))) next
+      subst (λ (n : ℕ). AreInPlace (reading_with checkpoint pairs) (length checkpoint.parts) n (map (part_reading checkpoint) (range_with_len (place + 1) count))) next
           (in_place_from pairs checkpoint (place + 1) count),
     )
 
@@ -98,20 +65,20 @@ entries_rise version (pair ∷ pairs) rise = (entries_above version pair pairs r
 
 -- the entries of the parts, one part after another, are those of the pairs
 entries_of_parts : (pairs : List Pair) (checkpoint : Checkpoint) → HasPairs pairs checkpoint
-    → entries_with checkpoint.version pairs ≡ flat_map (λ (part : PartReading). part.entries) (map (part_at checkpoint) (numbers checkpoint))
+    → entries_with checkpoint.version pairs ≡ flat_map (λ (part : PartReading). part.entries) (map (part_reading checkpoint) (numbers checkpoint))
 entries_of_parts pairs checkpoint is =
     let each = fill_by_all (pairs_of checkpoint) checkpoint.parts (length checkpoint.parts) [] refl (λ k fits. refl) in
     sym (all_entries pairs checkpoint is)
     ∙ ap (flat_map (entries_with checkpoint.version)) each
     ∙ flat_map-map (entries_with checkpoint.version) (pairs_of checkpoint) (numbers checkpoint)
-    ∙ sym (flat_map-map (λ (part : PartReading). part.entries) (part_at checkpoint) (numbers checkpoint))
+    ∙ sym (flat_map-map (λ (part : PartReading). part.entries) (part_reading checkpoint) (numbers checkpoint))
 
 valid_in_order : (pairs : List Pair) (checkpoint : Checkpoint) (order : List ℕ) → IsMap pairs → HasPairs pairs checkpoint → IsPermutation (numbers checkpoint) order
     → IsValid (map (known_at checkpoint) order) (reading_with checkpoint pairs)
 valid_in_order pairs checkpoint order is_map is moved =
     let n = length checkpoint.parts in
-    let texts = map (part_at checkpoint) (numbers checkpoint) in
-    let count : length texts ≡ n = length-map-range_with_len (part_at checkpoint) 0 n in record {
+    let texts = map (part_reading checkpoint) (numbers checkpoint) in
+    let count : length texts ≡ n = length-map-range_with_len (part_reading checkpoint) 0 n in record {
       texts = texts;
       are_whole = subst (λ (l : List KnownPart). IsPermutation l (map whole texts)) (sym (all_belong checkpoint order))
           (subst (IsPermutation (map (known_at checkpoint) order)) (map_twice (numbers checkpoint)) (IsPermutation-sym (map (known_at checkpoint) (numbers checkpoint)) (map (known_at checkpoint) order) (IsPermutation-map (known_at checkpoint) (numbers checkpoint) order moved)));
@@ -124,7 +91,7 @@ valid_in_order pairs checkpoint order is_map is moved =
       };
     }
   where
-    map_twice : (order : List ℕ) → map (known_at checkpoint) order ≡ map whole (map (part_at checkpoint) order)
+    map_twice : (order : List ℕ) → map (known_at checkpoint) order ≡ map whole (map (part_reading checkpoint) order)
     map_twice [] = refl
     map_twice (part ∷ order) = ap (λ (l : List KnownPart). known_at checkpoint part ∷ l) (map_twice order)
 
@@ -160,16 +127,12 @@ pub record AreKnownAs (pairs : List Pair) (checkpoint : Checkpoint) (parts : Lis
 pub known_as : (pairs : List Pair) (checkpoint : Checkpoint) (parts : List (List ℕ)) → IsMap pairs → HasPairs pairs checkpoint → AreAllParts checkpoint parts
     → AreKnownAs pairs checkpoint parts
 known_as pairs checkpoint parts is_map is all =
-    let found = mapped_from (part_text checkpoint) (numbers checkpoint) parts all in
-    let order = found.0 in
+    let order = all.order in
     let known = map (known_at checkpoint) order in
-    let below = all_from (λ (part : ℕ). part < length checkpoint.parts) order (λ part at.
-    of_each (λ (part : ℕ). part < length checkpoint.parts) (numbers checkpoint) part (numbers_below (length checkpoint.parts) 0 (length checkpoint.parts) (omega arith))
-    (Contains-permutation order (numbers checkpoint) part (IsPermutation-sym (numbers checkpoint) order found.1) at)) in
     let reading = reading_with checkpoint pairs in
-    let valid = valid_in_order pairs checkpoint order is_map is found.1 in record {
+    let valid = valid_in_order pairs checkpoint order is_map is all.all in record {
       known = known;
-      are_known = subst (λ (l : List (List ℕ)). AreKnown l known) found.2 (all_known pairs checkpoint order is_map is below);
+      are_known = all_known checkpoint parts order all.are_read;
       belong = all_belong checkpoint order;
       chosen = λ cutoff above. (
         record { valid = valid; ends_below = above },

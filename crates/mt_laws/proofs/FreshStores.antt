@@ -1,5 +1,6 @@
 -- Recovery from a fresh start, and from the logs after it.
-use Rattle.std.proofs.Common.{◌≡◌, ◌⊎◌, inl, inr, ℕ, ◌+◌, ◌<◌, ◌≤◌, max, true, IsTrue, Option, Some, List, [], ◌∷◌, ◌++◌, map, Contains, refl, sym, ap, ◌∙◌, subst, arith}
+use Rattle.std.proofs.Common.{◌≡◌, ◌⊎◌, inl, inr, ℕ, zero, suc, ◌+◌, ◌<◌, ◌≤◌, max, true, IsTrue, Option, Some, None, List, [], ◌∷◌, ◌++◌, map, Contains, refl, sym, ap, ◌∙◌, subst, arith}
+use Rattle.std.specs.List.{flat_map}
 use Rattle.std.specs.Option.{option_map}
 use Rattle.std.proofs.lemmas.Bool.{false≢true}
 use Rattle.std.proofs.lemmas.List.{append-nil}
@@ -13,19 +14,19 @@ use Rattle.mt_words.specs.Changes.{Logged, is_mark, Writes, set}
 use Rattle.mt_words.specs.Stamps.{IsAtMost}
 use Rattle.mt_words.specs.Walks.{Pair, IsMap, Holds}
 use Rattle.mt_words.specs.Built.{mark_of, entry_of}
-use Rattle.mt_words.proofs.Elements.{head_in, tail_in}
-use Rattle.mt_record.specs.Encoding.{head_of}
-use Rattle.mt_record.specs.Heads.{head_bytes}
+use Rattle.mt_words.proofs.Elements.{no_element, head_in, tail_in}
+use Rattle.mt_record.specs.declared.feed.head.Segment.{Segment}
+use Rattle.mt_record.specs.Encoding.{segment_head}
+use Rattle.mt_record.specs.Heads.{IsHead}
 use Rattle.mt_record.specs.Spelling.{spelling}
-use Rattle.mt_record.specs.Logs.{LogReading, IsReading, IsGreatestOf, times_of}
+use Rattle.mt_record.specs.Logs.{AreRecords, LogReading, IsReading, IsGreatestOf, times_of}
 use Rattle.mt_record.specs.LogTexts.{IsLast}
-use Rattle.mt_record.proofs.Records.{last_is, tells_torn}
-use Rattle.mt_record.proofs.Opened.{plain_reading}
-use Rattle.mt_checkpoint.specs.Checkpoints.{Checkpoint, HasPairs, entries_with, log_text}
-use Rattle.mt_checkpoint.proofs.Sound.{is_log}
+use Rattle.mt_record.proofs.Records.{last_is}
+use Rattle.mt_record.proofs.Opened.{whole_reading}
+use Rattle.mt_checkpoint.specs.Checkpoints.{Checkpoint, HasPairs, entries_with, log_reading}
 use Rattle.mt_scan.specs.Choice.{CheckpointReading}
-use Rattle.mt_scan.specs.Cutoff.{IsLastOf, IsCutoff}
-use Rattle.mt_scan.specs.Segments.{IsEarlier, HasFile}
+use Rattle.mt_scan.specs.Cutoff.{files_of, IsLastOf, IsCutoff}
+use Rattle.mt_scan.specs.Segments.{IsEarlier, HasFile, IsDoubled, HasGap}
 use Rattle.mt_replay.specs.KeyColumns.{HasColumn}
 use Rattle.mt_replay.specs.declared.window.Window.{Window}
 use Rattle.mt_replay.specs.Survivors.{wholes, in_window, log_survivors}
@@ -34,17 +35,16 @@ use Rattle.mt_replay.proofs.Members.{of_map, in_map, of_filter}
 use Rattle.mt_recover.specs.Recovery.{AreReadings, entry_updates, begin_of, survivors, Facts, records_of, IsStoreOf}
 use Rattle.mt_recover.specs.Report.{logged_updates, all_versions, Outcome, IsRecoveredOf}
 use Rattle.mt_recover.specs.Verdict.{IsVerdict}
-use Rattle.mt_recover.proofs.FoundLemmas.{alone}
 use Rattle.mt_recover.proofs.OneVerdict.{one_store, no_verdict, same_facts}
-use Rattle.mt_writer.specs.Files.{file_bytes, file_reading, HasSynced, IsOpenFile}
+use Rattle.mt_writer.specs.Files.{OpenFile, file_bytes, file_reading, HasSynced, IsOpenFile}
 use Rattle.mt_laws.specs.Fresh.{AreAllParts, reading_with, log_file, IsFresh, GoOnAfter, surviving, updates_after, AreAbove}
-use Rattle.mt_laws.specs.Lives.{AreOpen, IsFreshStart}
+use Rattle.mt_laws.specs.Lives.{IsBehind, AreOpen, IsFreshStart}
 use Rattle.mt_laws.proofs.Entries.{entry_stamp, entry_update}
 use Rattle.mt_laws.proofs.Moved.{version_at_most, version_below, Decides, at_most, column_by, moved, same_walk}
 use Rattle.mt_laws.proofs.LeftFiles.{none_at}
 use Rattle.mt_laws.proofs.SomeCutoff.{some_cutoff}
 use Rattle.mt_laws.proofs.SomeVerdict.{store_of}
-use Rattle.mt_laws.proofs.SomeLife.{IsAloneFrom, only_one, all_alone}
+use Rattle.mt_laws.proofs.SomeLife.{only_one}
 use Rattle.mt_laws.proofs.FreshParts.{known_as, chooses}
 
 -- ---- the entries of pairs
@@ -174,64 +174,103 @@ entries_walk version pairs is_map = record {
 
 -- ---- what recovery finds at a fresh start
 
-abbrev fresh_log : Checkpoint → LogReading
-fresh_log checkpoint = file_reading (log_file checkpoint)
+abbrev mark_above : Checkpoint → Logged
+mark_above checkpoint = mark_of (checkpoint.cutoff + 1)
 
-fresh_is_reading : (pairs : List Pair) (checkpoint : Checkpoint) → HasPairs pairs checkpoint → IsReading (log_text checkpoint) (fresh_log checkpoint)
-fresh_is_reading pairs checkpoint is = plain_reading (log_text checkpoint) (fresh_log checkpoint) [] (is_log pairs checkpoint is) (tells_torn (limits_of Two) [] true refl (inl refl))
+fresh_head : (pairs : List Pair) (checkpoint : Checkpoint) → HasPairs pairs checkpoint → IsHead (segment_head checkpoint.cutoff 0 0)
+fresh_head pairs checkpoint is = record { from = omega (arith, is.cutoff); segment = (refl, omega arith, omega arith) }
+
+fresh_records : (pairs : List Pair) (checkpoint : Checkpoint) → HasPairs pairs checkpoint → AreRecords (limits_of Two) 0 (mark_above checkpoint ∷ [])
+fresh_records pairs checkpoint is = ((omega (arith, is.cutoff), tt), omega arith, tt)
+
+-- the text is read like the file
+text_is_read : (pairs : List Pair) (checkpoint : Checkpoint) → HasPairs pairs checkpoint → IsReading (file_bytes (log_file checkpoint)) (log_reading checkpoint)
+text_is_read pairs checkpoint is = whole_reading (segment_head checkpoint.cutoff 0 0) (mark_above checkpoint ∷ []) (fresh_head pairs checkpoint is) (fresh_records pairs checkpoint is)
 
 -- the mark is synced
-mark_synced : (P : Logged → Type 0) (pairs : List Pair) (checkpoint : Checkpoint) → HasPairs pairs checkpoint → P (mark_of (checkpoint.cutoff + 1))
-    → HasSynced P (log_file checkpoint)
+mark_synced : (P : Logged → Type 0) (pairs : List Pair) (checkpoint : Checkpoint) → HasPairs pairs checkpoint → P (mark_above checkpoint) → HasSynced P (log_file checkpoint)
 mark_synced P pairs checkpoint is holds =
-    let mark = mark_of (checkpoint.cutoff + 1) in
-    record { reading = fresh_log checkpoint; is_reading = fresh_is_reading pairs checkpoint is; at = mark; stands = head_in mark []; holds = holds }
+    record { reading = log_reading checkpoint; is_reading = text_is_read pairs checkpoint is; at = mark_above checkpoint; stands = head_in (mark_above checkpoint) []; holds = holds }
+
+-- no segment comes before itself
+not_earlier : (segment : Option Segment) → IsEarlier segment segment → ⊥
+not_earlier None before = before
+not_earlier (Some segment) before = omega (arith, before.1)
+
+-- one file that lacks no update from the timestamp on
+alone_opens : (begin : ℕ) (file : OpenFile) → IsOpenFile file → file.head.from ≤ begin → AreOpen begin (file ∷ [])
+alone_opens begin file is_open from = record {
+  each = λ other at. subst IsOpenFile (only_one file other at) is_open;
+  once = once;
+  no_gap = λ i. none_at (HasGap begin readings) readings i (λ x at gap. elim gap as (λ _. ⊥) [
+    | inl amid ↦
+        let has = amid.0 in
+        let other : LogReading = has.1 in
+        not_earlier file.head.segment (subst (λ (s : Option Segment). IsEarlier s file.head.segment) (segment_is other (has.0, has.2, has.3))
+        (subst (λ (s : Option Segment). IsEarlier other.head.segment s) (segment_is x at) has.4))
+    | inr first ↦ let late : begin < file.head.from = subst (λ (r : LogReading). begin < r.head.from) (sym (only_one (file_reading file) x at)) first.1 in omega (arith, from, late)
+  ]);
+  whole = λ a b at_a at_b behind. absurd (none_behind a b at_a at_b behind);
+  beyond = λ a b at_a at_b behind. absurd (none_behind a b at_a at_b behind);
+}
+  where
+    readings : List LogReading
+    readings = file_reading file ∷ []
+
+    segment_is : (x : LogReading) → Contains readings x → x.head.segment ≡ file.head.segment
+    segment_is x at = ap (λ (r : LogReading). r.head.segment) (sym (only_one (file_reading file) x at))
+
+    once : (i : ℕ) → IsDoubled readings i → ⊥
+    once zero doubled = no_element doubled.1 (doubled.0, doubled.2, doubled.3)
+    once (suc i) doubled = doubled
+
+    none_behind : (a b : OpenFile) → Contains (file ∷ []) a → Contains (file ∷ []) b → IsBehind a b → ⊥
+    none_behind a b at_a at_b behind =
+        not_earlier file.head.segment (subst (λ (s : Option Segment). IsEarlier s file.head.segment) (ap (λ (f : OpenFile). f.head.segment) (sym (only_one file a at_a)))
+        (subst (λ (s : Option Segment). IsEarlier a.head.segment s) (ap (λ (f : OpenFile). f.head.segment) (sym (only_one file b at_b))) behind))
 
 -- the one file is open, and lacks no update from the checkpoint's cutoff on
 fresh_open : (pairs : List Pair) (checkpoint : Checkpoint) → HasPairs pairs checkpoint → AreOpen checkpoint.cutoff (log_file checkpoint ∷ [])
 fresh_open pairs checkpoint is =
     let file = log_file checkpoint in
-    let head = head_of Two checkpoint.cutoff in
-    let mark = spelling (mark_of (checkpoint.cutoff + 1)) in
-    let bytes : file_bytes file ≡ log_text checkpoint = ap (λ (z : List ℕ). head_bytes head ++ z) (append-nil mark) in
-    let is_open : IsOpenFile file = record {
-      is_reading = subst (λ (z : List ℕ). IsReading z (fresh_log checkpoint)) (sym bytes) (fresh_is_reading pairs checkpoint is);
+    alone_opens checkpoint.cutoff file (record {
+      is_reading = text_is_read pairs checkpoint is;
       synced = record {
         lost = [];
-        begins = bytes ∙ sym (append-nil (log_text checkpoint));
-        header = record { head = head; is_head = (is_log pairs checkpoint is).is_head; more = mark; spelled = refl };
+        begins = sym (append-nil (file_bytes file));
+        header = record { head = file.head; is_head = fresh_head pairs checkpoint is; more = flat_map spelling file.records; spelled = refl };
       };
       claim = mark_synced (λ r. checkpoint.cutoff ≤ r.timestamp) pairs checkpoint is (omega arith);
-    } in
-    all_alone checkpoint.cutoff (file ∷ []) (λ one at. subst (IsAloneFrom checkpoint.cutoff) (only_one file one at) (record { is_open = is_open; alone = refl; from = omega arith }))
+    }) (omega arith)
 
-fresh_cutoff : (pairs : List Pair) (checkpoint : Checkpoint) → HasPairs pairs checkpoint → IsCutoff (fresh_log checkpoint ∷ []) (checkpoint.cutoff + 1)
+fresh_cutoff : (pairs : List Pair) (checkpoint : Checkpoint) → HasPairs pairs checkpoint → IsCutoff (log_reading checkpoint ∷ []) (checkpoint.cutoff + 1)
 fresh_cutoff pairs checkpoint is =
-    let log = fresh_log checkpoint in
+    let log = log_reading checkpoint in
     let mark = checkpoint.cutoff + 1 in
     let times = times_of log in
+    let alone : times ≡ flat_map times_of (files_of log.head.segment log (log ∷ [])) = sym (append-nil times) in
     let later : max checkpoint.cutoff mark ≡ mark = omega arith in
-    let last : IsLast log mark = subst (IsLast log) later (last_is (limits_of Two) log (is_log pairs checkpoint is).lawful) in
+    let last : IsLast log mark = subst (IsLast log) later (last_is (limits_of Two) log (fresh_records pairs checkpoint is)) in
     let of_log : (other : LogReading) (n : ℕ) → log ≡ other → IsLastOf (log ∷ []) other n → IsLast log n = λ other n same is_last.
-    subst (λ (ts : List ℕ). IsGreatestOf ts n) (sym (alone (log ∷ []) log refl)) (subst (λ (x : LogReading). IsLastOf (log ∷ []) x n) (sym same) is_last) in record {
-      has = record { log = log; stands = head_in log []; is_last = subst (λ (ts : List ℕ). IsGreatestOf ts mark) (alone (log ∷ []) log refl) last };
+    subst (λ (ts : List ℕ). IsGreatestOf ts n) (sym alone) (subst (λ (x : LogReading). IsLastOf (log ∷ []) x n) (sym same) is_last) in record {
+      has = record { log = log; stands = head_in log []; is_last = subst (λ (ts : List ℕ). IsGreatestOf ts mark) alone last };
       least = λ n other.
           let is_last = of_log other.log n (only_one log other.log other.stands) other.is_last in
           All-contains (λ (time : ℕ). time ≤ n) times mark is_last.1 (tail_in checkpoint.cutoff mark (mark ∷ []) (head_in mark []));
     }
 
-fresh_facts : (pairs : List Pair) (checkpoint : Checkpoint) (parts : List (List ℕ)) → IsMap pairs → HasPairs pairs checkpoint → AreAllParts checkpoint parts
-    → Facts (log_text checkpoint ∷ []) parts
-fresh_facts pairs checkpoint parts is_map is all =
-    let log = fresh_log checkpoint in
-    let files = log ∷ [] in
+fresh_facts : (log : List ℕ) (pairs : List Pair) (checkpoint : Checkpoint) (parts : List (List ℕ)) → IsMap pairs → HasPairs pairs checkpoint → AreAllParts checkpoint parts
+    → IsReading log (log_reading checkpoint) → Facts (log ∷ []) parts
+fresh_facts log pairs checkpoint parts is_map is all read =
+    let reading = log_reading checkpoint in
+    let files = reading ∷ [] in
     let found = known_as pairs checkpoint parts is_map is all in record {
       readings = files;
-      read = (fresh_is_reading pairs checkpoint is, tt);
+      read = (read, tt);
       writers = record {
         once = (fresh_open pairs checkpoint is).once;
         sound = λ i. none_at (λ x. IsTrue x.torn × HasFile files (IsEarlier x.head.segment)) files i (λ x at amid.
-            false≢true (subst (λ (f : LogReading). IsTrue f.torn) (sym (only_one log x at)) amid.0));
+            false≢true (subst (λ (f : LogReading). IsTrue f.torn) (sym (only_one reading x at)) amid.0));
       };
       cutoff = checkpoint.cutoff + 1;
       is_cutoff = fresh_cutoff pairs checkpoint is;
@@ -243,32 +282,32 @@ fresh_facts pairs checkpoint parts is_map is all =
 
 -- ---- the laws
 
-pub fresh_store : (pairs : List Pair) (checkpoint : Checkpoint) (parts : List (List ℕ)) → IsMap pairs → HasPairs pairs checkpoint → AreAllParts checkpoint parts
-    → IsStoreOf (log_text checkpoint ∷ []) parts pairs
+pub fresh_store : (log : List ℕ) (pairs : List Pair) (checkpoint : Checkpoint) (parts : List (List ℕ)) → IsMap pairs → HasPairs pairs checkpoint → AreAllParts checkpoint parts
+    → IsReading log (log_reading checkpoint) → IsStoreOf (log ∷ []) parts pairs
 unfolding fresh_facts
-fresh_store pairs checkpoint parts is_map is all = record {
-  basis = record { facts = fresh_facts pairs checkpoint parts is_map is all; no_gap = (fresh_open pairs checkpoint is).no_gap };
+fresh_store log pairs checkpoint parts is_map is all read = record {
+  basis = record { facts = fresh_facts log pairs checkpoint parts is_map is all read; no_gap = (fresh_open pairs checkpoint is).no_gap };
   walk = entries_walk checkpoint.version pairs is_map;
 }
 
-pub fresh_recovered : (pairs : List Pair) (checkpoint : Checkpoint) (parts : List (List ℕ)) (outcome : Outcome) → IsMap pairs → HasPairs pairs checkpoint
-    → AreAllParts checkpoint parts → IsRecoveredOf (log_text checkpoint ∷ []) parts outcome → IsFresh pairs checkpoint outcome
+pub fresh_recovered : (log : List ℕ) (pairs : List Pair) (checkpoint : Checkpoint) (parts : List (List ℕ)) (outcome : Outcome) → IsMap pairs → HasPairs pairs checkpoint
+    → AreAllParts checkpoint parts → IsReading log (log_reading checkpoint) → IsRecoveredOf (log ∷ []) parts outcome → IsFresh pairs checkpoint outcome
 unfolding fresh_facts
-fresh_recovered pairs checkpoint parts outcome is_map is all recovered =
-    let logs = log_text checkpoint ∷ [] in
+fresh_recovered log pairs checkpoint parts outcome is_map is all read recovered =
+    let logs = log ∷ [] in
     let facts = recovered.store.basis.facts in
-    let fresh = fresh_facts pairs checkpoint parts is_map is all in
+    let fresh = fresh_facts log pairs checkpoint parts is_map is all read in
     let same = same_facts logs parts facts fresh in
     let found = recovered.report.found in record {
-      store = one_store logs parts outcome.store pairs recovered.store (fresh_store pairs checkpoint parts is_map is all);
+      store = one_store logs parts outcome.store pairs recovered.store (fresh_store log pairs checkpoint parts is_map is all read);
       chosen = found.checkpoint ∙ ap (option_map (λ (c : CheckpointReading). c.number)) same.3;
       cutoff = found.cutoff ∙ same.1;
     }
 
-pub fresh_no_fault : (pairs : List Pair) (checkpoint : Checkpoint) (parts : List (List ℕ)) (fault : Fault) → IsMap pairs → HasPairs pairs checkpoint
-    → AreAllParts checkpoint parts → IsVerdict (log_text checkpoint ∷ []) parts fault → ⊥
-fresh_no_fault pairs checkpoint parts fault is_map is all verdict =
-    no_verdict (log_text checkpoint ∷ []) parts pairs fault (fresh_store pairs checkpoint parts is_map is all) verdict
+pub fresh_no_fault : (log : List ℕ) (pairs : List Pair) (checkpoint : Checkpoint) (parts : List (List ℕ)) (fault : Fault) → IsMap pairs → HasPairs pairs checkpoint
+    → AreAllParts checkpoint parts → IsReading log (log_reading checkpoint) → IsVerdict (log ∷ []) parts fault → ⊥
+fresh_no_fault log pairs checkpoint parts fault is_map is all read verdict =
+    no_verdict (log ∷ []) parts pairs fault (fresh_store log pairs checkpoint parts is_map is all read) verdict
 
 -- recovery has no fault as the server goes on
 pub later_store : (pairs : List Pair) (checkpoint : Checkpoint) (later files : List (List ℕ)) (readings : List LogReading) → IsMap pairs → HasPairs pairs checkpoint

@@ -1,6 +1,6 @@
 -- What a crash leaves of open files: sound segments, which agree with what was written below the cutoff.
 use Rattle.std.proofs.Common.{◌≡◌, ◌⊎◌, inl, inr, ℕ, zero, suc, ◌+◌, ◌<◌, ◌≤◌, Bool, true, IsTrue, Option, Some, None, IsSomeAnd, List, [], ◌∷◌, ◌++◌, length, take, map, Contains, refl, sym, ap, ◌∙◌, subst, arith}
-use Rattle.std.specs.Prelude.{◌==◌, slice_get, nat_lt}
+use Rattle.std.specs.Prelude.{◌==◌, ◌||◌, false, slice_get, nat_lt}
 use Rattle.std.specs.List.{AllZip, AllByRecursion, list_any, flat_map}
 use Rattle.std.proofs.lemmas.Bool.{cases_order, cases_eq, cases_lt, eq-eqb, eqb-true, and_from, or_left, or_right, false≢true}
 use Rattle.std.proofs.lemmas.List.{append-nil, length-append, nil_from_length}
@@ -11,6 +11,7 @@ use Rattle.mt_words.specs.Changes.{Logged, is_mark}
 use Rattle.mt_words.proofs.Elements.{no_element, head_or_tail, head_in, tail_in}
 use Rattle.mt_record.specs.declared.feed.head.Head.{Head}
 use Rattle.mt_record.specs.declared.feed.head.Segment.{Segment}
+use Rattle.mt_record.specs.Opening.{Opens}
 use Rattle.mt_record.specs.Logs.{AreRecords, latest, LogReading, IsReading, times_of}
 use Rattle.mt_record.specs.Resuming.{greatest_timestamp, is_end, is_ended, below}
 use Rattle.mt_record.proofs.OneReading.{one_reading_of}
@@ -21,7 +22,7 @@ use Rattle.mt_recover.specs.Recovery.{AreReadings}
 use Rattle.mt_writer.specs.Files.{IsCutOf, OpenFile, file_bytes, file_reading, HasSynced, IsOpenFile}
 use Rattle.mt_laws.specs.Crashes.{IsBeginningOf}
 use Rattle.mt_laws.specs.Lives.{IsBehind, AreOpen, IsLeftOf, IsSyncedAbove}
-use Rattle.mt_laws.proofs.CutLogs.{cut_log}
+use Rattle.mt_laws.proofs.CutLogs.{cut_log, file_says, text_says}
 use Rattle.mt_laws.proofs.Lost.{behind_latest}
 use Rattle.mt_laws.proofs.SomeCutoff.{some_last, own_file}
 use Rattle.mt_laws.proofs.Agreeing.{AgreeBelow}
@@ -32,27 +33,42 @@ use Rattle.mt_laws.proofs.ResumedStores.{time_fits}
 
 -- ---- what is left of a file
 
--- what is left of an open file says a beginning of it
-pub record SaysLeft (log : OpenFile) (left : LogReading) : Type 0 where
+-- what is left of one of these files says a beginning of it
+pub record SaysLeft (logs : List OpenFile) (log : OpenFile) (left : LogReading) : Type 0 where
   pub bytes : List ℕ
-  pub is_left : IsLeftOf log bytes
+  pub is_left : IsLeftOf logs log bytes
   pub is_reading : IsReading bytes left
+  pub torn : Bool
+  pub is_text : IsReading is_left.text (record left { torn = torn })
   pub begins : IsBeginningOf left (file_reading log)
   pub is_open : IsOpenFile log
 
-one_left : (log : OpenFile) (left : List ℕ) → IsOpenFile log → IsLeftOf log left → (reading : LogReading) × IsReading left reading × SaysLeft log reading
-one_left log left is_open is =
-    let said = cut_log left (file_bytes log) (file_reading log) is_open.is_reading is.1 in
-    (said.log, said.is_reading, record { bytes = left; is_left = is; is_reading = said.is_reading; begins = said.begins; is_open = is_open })
+one_left : (logs : List OpenFile) (log : OpenFile) (left : List ℕ) → IsOpenFile log → IsLeftOf logs log left → (reading : LogReading) × IsReading left reading × SaysLeft logs log reading
+one_left logs log left is_open is =
+    let said = cut_log is.text (file_bytes log) (file_reading log) is_open.is_reading is.written in
+    let reading = record said.log { torn = is.torn || said.log.torn } in
+    let is_reading = file_says left is.text is.torn said.log is.opens (text_says is.text said.log is.written.header said.is_reading) in (
+      reading,
+      is_reading,
+      record {
+        bytes = left;
+        is_left = is;
+        is_reading = is_reading;
+        torn = said.log.torn;
+        is_text = said.is_reading;
+        begins = record { head = said.begins.head; lost = said.begins.lost; records = said.begins.records };
+        is_open = is_open;
+      },
+    )
 
-pub all_left : (logs : List OpenFile) (left : List (List ℕ)) → ((log : OpenFile) → Contains logs log → IsOpenFile log) → AllZip IsLeftOf logs left
-    → (readings : List LogReading) × AreReadings left readings × AllZip SaysLeft logs readings
-all_left [] [] opens are = ([], tt, tt)
-all_left [] (l ∷ ls) opens are = absurd are
-all_left (log ∷ logs) [] opens are = absurd are
-all_left (log ∷ logs) (l ∷ ls) opens are =
-    let first = one_left log l (opens log (head_in log logs)) are.0 in
-    let rest = all_left logs ls (λ x at. opens x (tail_in log x logs at)) are.1 in
+pub all_left : (files logs : List OpenFile) (left : List (List ℕ)) → ((log : OpenFile) → Contains logs log → IsOpenFile log) → AllZip (IsLeftOf files) logs left
+    → (readings : List LogReading) × AreReadings left readings × AllZip (SaysLeft files) logs readings
+all_left files [] [] opens are = ([], tt, tt)
+all_left files [] (l ∷ ls) opens are = absurd are
+all_left files (log ∷ logs) [] opens are = absurd are
+all_left files (log ∷ logs) (l ∷ ls) opens are =
+    let first = one_left files log l (opens log (head_in log logs)) are.0 in
+    let rest = all_left files logs ls (λ x at. opens x (tail_in log x logs at)) are.1 in
     (first.0 ∷ rest.0, (first.1, rest.1), (first.2, rest.2))
 
 -- what bytes say as a log is a beginning of what further bytes say
@@ -62,13 +78,13 @@ says_less bytes more log less cut is is_less =
     subst (λ (x : LogReading). IsBeginningOf x log) (one_reading_of bytes said.log less said.is_reading is_less) said.begins
 
 -- a record that is synced is left
-pub synced_left : (P : Logged → Type 0) (log : OpenFile) (left : LogReading) → SaysLeft log left → HasSynced P log → (r : Logged) × Contains left.records r × P r
+pub synced_left : {all : List OpenFile} (P : Logged → Type 0) (log : OpenFile) (left : LogReading) → SaysLeft all log left → HasSynced P log → (r : Logged) × Contains left.records r × P r
 synced_left P log left says has =
-    let begins = says_less log.synced says.bytes left has.reading says.is_left.0 says.is_reading has.is_reading in
+    let begins = says_less log.synced says.is_left.text (record left { torn = says.torn }) has.reading says.is_left.synced says.is_text has.is_reading in
     (has.at, subst (λ (rs : List Logged). Contains rs has.at) (sym begins.records) (Contains-append_left has.reading.records begins.lost has.at has.stands), has.holds)
 
 -- the times of what is left are times of the file
-left_times : (log : OpenFile) (left : LogReading) (time : ℕ) → SaysLeft log left → Contains (times_of left) time → Contains (times_of (file_reading log)) time
+left_times : {all : List OpenFile} (log : OpenFile) (left : LogReading) (time : ℕ) → SaysLeft all log left → Contains (times_of left) time → Contains (times_of (file_reading log)) time
 left_times log left time says at = elim (head_or_tail left.head.from time (map time_of left.records) at) as (λ _. Contains (times_of (file_reading log)) time) [
   | inl e ↦ subst (Contains (times_of (file_reading log))) (ap (λ (head : Head). head.from) (sym says.begins.head) ∙ e) (head_in log.head.from (map time_of log.records))
   | inr later ↦
@@ -77,28 +93,29 @@ left_times log left time says at = elim (head_or_tail left.head.from time (map t
       tail_in log.head.from time (map time_of log.records) (subst (Contains (map time_of log.records)) found.2 (in_map time_of log.records found.0 among))
 ]
 
--- a file that is synced whole is left whole
-whole_left : (log : OpenFile) (left : LogReading) → SaysLeft log left → log.synced ≡ file_bytes log → left ≡ file_reading log
-whole_left log left says whole =
-    let first = says.is_left.0 in
-    let second = says.is_left.1 in
-    let all : length (file_bytes log) ≡ length says.bytes + length second.lost = ap length second.begins ∙ length-append says.bytes second.lost in
-    let part : length says.bytes ≡ length log.synced + length first.lost = ap length first.begins ∙ length-append log.synced first.lost in
+-- a file that is synced whole, and that a later segment follows, is left whole
+whole_left : {all : List OpenFile} (log : OpenFile) (left : LogReading) → (says : SaysLeft all log left) → log.synced ≡ file_bytes log → says.is_left.torn ≡ false → left ≡ file_reading log
+whole_left log left says whole not_torn =
+    let is = says.is_left in
+    let all : length (file_bytes log) ≡ length is.text + length is.written.lost = ap length is.written.begins ∙ length-append is.text is.written.lost in
+    let part : length is.text ≡ length log.synced + length is.synced.lost = ap length is.synced.begins ∙ length-append log.synced is.synced.lost in
     let same : length log.synced ≡ length (file_bytes log) = ap length whole in
-    let none : second.lost ≡ [] = nil_from_length second.lost (omega (arith, all, part, same)) in
-    let bytes : file_bytes log ≡ says.bytes = second.begins ∙ ap (λ (l : List ℕ). says.bytes ++ l) none ∙ append-nil says.bytes in
-    one_reading_of says.bytes left (file_reading log) says.is_reading (subst (λ (l : List ℕ). IsReading l (file_reading log)) bytes says.is_open.is_reading)
+    let none : is.written.lost ≡ [] = nil_from_length is.written.lost (omega (arith, all, part, same)) in
+    let text : file_bytes log ≡ is.text = is.written.begins ∙ ap (λ (l : List ℕ). is.text ++ l) none ∙ append-nil is.text in
+    let reading = subst (λ (l : List ℕ). IsReading l (file_reading log)) text says.is_open.is_reading in
+    let of_file = file_says says.bytes is.text false (file_reading log) (subst (Opens says.bytes is.text) not_torn is.opens) (text_says is.text (file_reading log) is.written.header reading) in
+    one_reading_of says.bytes left (file_reading log) says.is_reading of_file
 
-pub claims_left : (log : OpenFile) (left : LogReading) → SaysLeft log left → ClaimsNoMore (file_reading log) left
+pub claims_left : {all : List OpenFile} (log : OpenFile) (left : LogReading) → SaysLeft all log left → ClaimsNoMore (file_reading log) left
 claims_left log left says =
     let from : left.head.from ≡ log.head.from = ap (λ (head : Head). head.from) says.begins.head in
     record { segment = ap (λ (head : Head). head.segment) says.begins.head; from = omega (arith, from) }
 
-segment_left : (log : OpenFile) (left : LogReading) → SaysLeft log left → left.head.segment ≡ log.head.segment
+segment_left : {all : List OpenFile} (log : OpenFile) (left : LogReading) → SaysLeft all log left → left.head.segment ≡ log.head.segment
 segment_left log left says = ap (λ (head : Head). head.segment) says.begins.head
 
 -- the earlier segments of what is left were earlier segments of the file
-behind_left : (a b : OpenFile) (x y : LogReading) → SaysLeft a x → SaysLeft b y → IsEarlier x.head.segment y.head.segment → IsBehind a b
+behind_left : {all : List OpenFile} (a b : OpenFile) (x y : LogReading) → SaysLeft all a x → SaysLeft all b y → IsEarlier x.head.segment y.head.segment → IsBehind a b
 behind_left a b x y of_a of_b earlier = subst (λ (s : Option Segment × Option Segment). IsEarlier s.0 s.1) (λ i. (segment_left a x of_a i, segment_left b y of_b i)) earlier
 
 -- ---- sound segments
@@ -108,21 +125,22 @@ none_at Q [] i none is = is
 none_at Q (x ∷ xs) zero none is = none x (head_in x xs) is
 none_at Q (x ∷ xs) (suc i) none is = none_at Q xs i (λ y at. none y (tail_in x y xs at)) is
 
-pub zip_claims : (logs : List OpenFile) (left : List LogReading) → AllZip SaysLeft logs left → AllZip ClaimsNoMore (map file_reading logs) left
-zip_claims [] [] are = tt
-zip_claims [] (l ∷ ls) are = absurd are
-zip_claims (log ∷ logs) [] are = absurd are
-zip_claims (log ∷ logs) (l ∷ ls) are = (claims_left log l are.0, zip_claims logs ls are.1)
+pub zip_claims : (all logs : List OpenFile) (left : List LogReading) → AllZip (SaysLeft all) logs left → AllZip ClaimsNoMore (map file_reading logs) left
+zip_claims all [] [] are = tt
+zip_claims all [] (l ∷ ls) are = absurd are
+zip_claims all (log ∷ logs) [] are = absurd are
+zip_claims all (log ∷ logs) (l ∷ ls) are = (claims_left log l are.0, zip_claims all logs ls are.1)
 
-pub writers_left : {begin : ℕ} (logs : List OpenFile) (left : List LogReading) → AreOpen begin logs → AllZip SaysLeft logs left → AreWriters left
+pub writers_left : {begin : ℕ} (logs : List OpenFile) (left : List LogReading) → AreOpen begin logs → AllZip (SaysLeft logs) logs left → AreWriters left
 writers_left logs left open_logs are = record {
-  once = once_stays (map file_reading logs) left (zip_claims logs left are) open_logs.once;
+  once = once_stays (map file_reading logs) left (zip_claims logs logs left are) open_logs.once;
   sound = λ i. none_at (λ file. IsTrue file.torn × HasFile left (IsEarlier file.head.segment)) left i (λ file at amid.
-      let log = partner_of SaysLeft logs left file are at in
+      let log = partner_of (SaysLeft logs) logs left file are at in
       let has = amid.1 in
-      let later = partner_of SaysLeft logs left has.1 are (has.0, has.2, has.3) in
-      let whole = open_logs.whole log.0 later.0 log.1 later.1 (behind_left log.0 later.0 file has.1 log.2 later.2 has.4) in
-      false≢true (sym (ap (λ (l : LogReading). l.torn) (whole_left log.0 file log.2 whole)) ∙ amid.0));
+      let later = partner_of (SaysLeft logs) logs left has.1 are (has.0, has.2, has.3) in
+      let behind = behind_left log.0 later.0 file has.1 log.2 later.2 has.4 in
+      let whole = open_logs.whole log.0 later.0 log.1 later.1 behind in
+      false≢true (sym (ap (λ (l : LogReading). l.torn) (whole_left log.0 file log.2 whole (log.2.is_left.whole later.0 later.1 behind))) ∙ amid.0));
 }
 
 -- ---- one file for one segment
@@ -189,7 +207,7 @@ at_most_latest limits low (x ∷ xs) r are at = elim (head_or_tail x r xs at) as
     latest_least limits low (y ∷ ys) are = let rises : low ≤ y.timestamp = are.1 in let rest : y.timestamp ≤ latest y.timestamp ys = latest_least limits y.timestamp ys are.2 in omega (arith, rises, rest)
 
 -- a timestamp is not above the last record that is left, if a record at or past it is synced
-reached : (time : ℕ) (P : Logged → Type 0) (log : OpenFile) (left : LogReading) → ((r : Logged) → P r → time ≤ r.timestamp) → SaysLeft log left → HasSynced P log
+reached : {all : List OpenFile} (time : ℕ) (P : Logged → Type 0) (log : OpenFile) (left : LogReading) → ((r : Logged) → P r → time ≤ r.timestamp) → SaysLeft all log left → HasSynced P log
     → time ≤ latest 0 left.records
 reached time P log left at_least says has =
     let found = synced_left P log left says has in
@@ -202,8 +220,8 @@ abbrev pub IsLastFile : List LogReading → LogReading → Type 0
 IsLastFile files file = (x : LogReading) → Contains files x → IsEarlier file.head.segment x.head.segment → ⊥
 
 -- the last file of a log reaches as far as the log
-reaches_last : {begin : ℕ} (logs : List OpenFile) (files : List LogReading) (log : OpenFile) (file : LogReading) (last : ℕ) → AreOpen begin logs → AllZip SaysLeft logs files
-    → AreWriters files → Contains logs log → Contains files file → SaysLeft log file → IsLastFile files file → IsLastOf files file last
+reaches_last : {begin : ℕ} (logs : List OpenFile) (files : List LogReading) (log : OpenFile) (file : LogReading) (last : ℕ) → AreOpen begin logs → AllZip (SaysLeft logs) logs files
+    → AreWriters files → Contains logs log → Contains files file → SaysLeft logs log file → IsLastFile files file → IsLastOf files file last
     → last ≤ latest 0 file.records
 reaches_last logs files log file last open_logs are writers at_log at says is_last is =
     let found = of_flat_map times_of (files_of file.head.segment file files) last is.0 in
@@ -228,7 +246,7 @@ reaches_last logs files log file last open_logs are writers at_log at says is_la
 
     behind : (x : LogReading) → Contains files x → IsEarlier x.head.segment file.head.segment → Contains (times_of x) last → last ≤ L
     behind x there earlier at =
-        let a = partner_of SaysLeft logs files x are there in
+        let a = partner_of (SaysLeft logs) logs files x are there in
         let mark = open_logs.beyond a.0 log a.1 at_log (behind_left a.0 log x file a.2 says earlier) last (left_times a.0 x last a.2 at) in
         reached last (λ (r : Logged). (is_mark r ≡ true) × (last ≤ r.timestamp)) log file (λ r both. both.1) says mark
 
@@ -298,7 +316,7 @@ all_weaker P Q [] follows are = tt
 all_weaker P Q (x ∷ xs) follows are = (follows x are.0, all_weaker P Q xs follows are.1)
 
 -- a file that reaches the cutoff agrees with what was written below it
-reaching_agrees : (cutoff : ℕ) (log : OpenFile) (file : LogReading) → SaysLeft log file → cutoff ≤ latest 0 file.records → AgreeBelow cutoff file.records log.records
+reaching_agrees : {all : List OpenFile} (cutoff : ℕ) (log : OpenFile) (file : LogReading) → SaysLeft all log file → cutoff ≤ latest 0 file.records → AgreeBelow cutoff file.records log.records
 reaching_agrees cutoff log file says reaches =
     let limits = limits_of log.head.format in
     let lost = says.begins.lost in
@@ -311,12 +329,13 @@ reaching_agrees cutoff log file says reaches =
       same = sym (ap (below cutoff) says.begins.records ∙ same);
     }
 
-left_agrees : {begin : ℕ} (logs : List OpenFile) (files : List LogReading) (cutoff : ℕ) → AreOpen begin logs → AllZip SaysLeft logs files → IsCutoff files cutoff
-    → (log : OpenFile) (file : LogReading) → Contains logs log × Contains files file × SaysLeft log file → AgreeBelow cutoff file.records log.records
+left_agrees : {begin : ℕ} (logs : List OpenFile) (files : List LogReading) (cutoff : ℕ) → AreOpen begin logs → AllZip (SaysLeft logs) logs files → IsCutoff files cutoff
+    → (log : OpenFile) (file : LogReading) → Contains logs log × Contains files file × SaysLeft logs log file → AgreeBelow cutoff file.records log.records
 left_agrees logs files cutoff open_logs are is log file (at_log, at, says) = elim (later_or_last files file) as (λ _. AgreeBelow cutoff file.records log.records) [
   | inl later ↦
-      let b = partner_of SaysLeft logs files later.0 are later.1 in
-      let whole = whole_left log file says (open_logs.whole log b.0 at_log b.1 (behind_left log b.0 file later.0 says b.2 later.2)) in
+      let b = partner_of (SaysLeft logs) logs files later.0 are later.1 in
+      let behind = behind_left log b.0 file later.0 says b.2 later.2 in
+      let whole = whole_left log file says (open_logs.whole log b.0 at_log b.1 behind) (says.is_left.whole b.0 b.1 behind) in
       record { rise = (limits_of file.head.format, says.is_reading.is_log.lawful); others_rise = (limits_of log.head.format, says.is_open.is_reading.is_log.lawful); same = ap (λ (l : LogReading). below cutoff l.records) whole }
   | inr is_last ↦
       let own = some_last files file at in
@@ -325,11 +344,11 @@ left_agrees logs files cutoff open_logs are is log file (at_log, at, says) = eli
       reaching_agrees cutoff log file says (omega (arith, low, high))
 ]
 
-pub all_left_agree : {begin : ℕ} (logs : List OpenFile) (files : List LogReading) (cutoff : ℕ) → AreOpen begin logs → AllZip SaysLeft logs files → IsCutoff files cutoff
+pub all_left_agree : {begin : ℕ} (logs : List OpenFile) (files : List LogReading) (cutoff : ℕ) → AreOpen begin logs → AllZip (SaysLeft logs) logs files → IsCutoff files cutoff
     → AllZip (λ log file. AgreeBelow cutoff file.records log.records) logs files
 all_left_agree logs files cutoff open_logs are is =
-    zip_weaker (λ log file. Contains logs log × Contains files file × SaysLeft log file) (λ log file. AgreeBelow cutoff file.records log.records) logs files
-    (left_agrees logs files cutoff open_logs are is) (zip_members SaysLeft logs files are)
+    zip_weaker (λ log file. Contains logs log × Contains files file × SaysLeft logs log file) (λ log file. AgreeBelow cutoff file.records log.records) logs files
+    (left_agrees logs files cutoff open_logs are is) (zip_members (SaysLeft logs) logs files are)
 
 -- ---- what is synced above a timestamp
 
@@ -344,10 +363,10 @@ later_in_log files file x at earlier = by file.head.segment x.head.segment refl 
     by (Some s) (Some t) is_t earlier =
         in_filter (λ (other : LogReading). is_segment_of s.worker other.head.segment) files x (ap (is_segment_of s.worker) is_t ∙ eq-eqb t.worker s.worker (sym earlier.0)) at
 
-pub last_above : (time : ℕ) (logs : List OpenFile) (files : List LogReading) (last : ℕ) → AllZip SaysLeft logs files
+pub last_above : (time : ℕ) (logs : List OpenFile) (files : List LogReading) (last : ℕ) → AllZip (SaysLeft logs) logs files
     → ((log : OpenFile) → Contains logs log → IsSyncedAbove time logs log) → HasLast files last → time < last
 last_above time logs files last are above has =
-    let log = partner_of SaysLeft logs files has.log are has.stands in
+    let log = partner_of (SaysLeft logs) logs files has.log are has.stands in
     by log.0 log.2 (above log.0 log.1)
   where
     of_log : List LogReading
@@ -360,11 +379,11 @@ last_above time logs files last are above has =
         let less : time < found.0.timestamp = found.2 in
         omega (arith, most, less)
 
-    by : (log : OpenFile) → SaysLeft log has.log → IsSyncedAbove time logs log → time < last
+    by : (log : OpenFile) → SaysLeft logs log has.log → IsSyncedAbove time logs log → time < last
     by log says synced = elim synced.of_log as (λ _. time < last) [
       | inl e ↦ reached_by has.log (own_file files has.log has.stands) (synced_left (λ (r : Logged). time < r.timestamp) log has.log says (subst (HasSynced (λ (r : Logged). time < r.timestamp)) (sym e) synced.above))
       | inr behind ↦
-          let z = partner SaysLeft logs files synced.last are synced.stands in
+          let z = partner (SaysLeft logs) logs files synced.last are synced.stands in
           let earlier = subst (λ (s : Option Segment × Option Segment). IsEarlier s.0 s.1) (λ i. (sym (segment_left log has.log says) i, sym (segment_left synced.last z.0 z.2) i)) behind in
           reached_by z.0 (later_in_log files has.log z.0 z.1 earlier) (synced_left (λ (r : Logged). time < r.timestamp) synced.last z.0 z.2 synced.above)
     ]
@@ -379,11 +398,11 @@ any_in p (y ∷ ys) x at is = elim (head_or_tail y x ys at) as (λ _. list_any p
 ]
 
 -- what is behind an ended file is not ended, unless that is
-pub ends_left : {begin : ℕ} (logs : List OpenFile) (files : List LogReading) → AreOpen begin logs → AllZip SaysLeft logs files → (x y : LogReading) → Contains files x
+pub ends_left : {begin : ℕ} (logs : List OpenFile) (files : List LogReading) → AreOpen begin logs → AllZip (SaysLeft logs) logs files → (x y : LogReading) → Contains files x
     → Contains files y → IsEarlier x.head.segment y.head.segment → is_ended x.records ≡ true → is_ended y.records ≡ true
 ends_left logs files open_logs are x y at_x at_y earlier ended =
-    let a = partner_of SaysLeft logs files x are at_x in
-    let b = partner_of SaysLeft logs files y are at_y in
+    let a = partner_of (SaysLeft logs) logs files x are at_x in
+    let b = partner_of (SaysLeft logs) logs files y are at_y in
     let time = left_times a.0 x greatest_timestamp a.2 (tail_in x.head.from greatest_timestamp (map time_of x.records) (ended_time x.records ended)) in
     let mark = open_logs.beyond a.0 b.0 a.1 b.1 (behind_left a.0 b.0 x y a.2 b.2 earlier) greatest_timestamp time in
     let found = synced_left (λ (r : Logged). (is_mark r ≡ true) × (greatest_timestamp ≤ r.timestamp)) b.0 y b.2 mark in

@@ -13,6 +13,7 @@ pub mod Items
 pub mod Fitting
 pub mod SomeSeal
 pub mod SomeReading
+pub mod SomePartSeal
 pub mod SomePart
 pub mod Finite
 pub mod Maps
@@ -29,6 +30,7 @@ pub mod ResumedStores
 pub mod Deleted
 pub mod Continued
 pub mod LeftFiles
+pub mod LeftBlocks
 pub mod Living
 pub mod SomeLife
 pub mod FreshParts
@@ -54,3 +56,6 @@ pub mod ServerRestarts
 pub mod SomeCalls
 pub mod Orders
 pub mod AnyOrder
+pub mod Bursts
+pub mod BurstStores
+pub mod BurstParts

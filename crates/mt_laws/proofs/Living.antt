@@ -1,5 +1,5 @@
 -- Each step of a life keeps what the next recovery needs.
-use Rattle.std.proofs.Common.{◌≡◌, ◌⊎◌, ◌↔◌, inl, inr, ℕ, zero, suc, ◌^◌, ◌<◌, ◌≤◌, ltb, Bool, true, cond, min, IsSomeAnd, Option, Some, None, List, [], ◌∷◌, ◌++◌, length, map, filter, Contains, refl, sym, ap, ◌∙◌, subst, arith}
+use Rattle.std.proofs.Common.{◌≡◌, ◌⊎◌, ◌↔◌, inl, inr, ℕ, zero, suc, ◌^◌, ◌<◌, ◌≤◌, ltb, Bool, true, false, cond, min, IsSomeAnd, Option, Some, None, List, [], ◌∷◌, ◌++◌, length, map, filter, Contains, refl, sym, ap, ◌∙◌, subst, arith}
 use Rattle.std.specs.Prelude.{IfSome, slice_get, nat_lt}
 use Rattle.std.specs.List.{AllZip, flat_map}
 use Rattle.std.proofs.lemmas.Bool.{cases_lt, lt-ltb, ltb-true, and_from, and_parts, both_ways}
@@ -18,6 +18,7 @@ use Rattle.mt_record.specs.declared.feed.head.Segment.{Segment}
 use Rattle.mt_record.specs.Spelling.{spelling}
 use Rattle.mt_record.specs.Logs.{log_bytes, LogReading, IsReading, times_of}
 use Rattle.mt_record.specs.Resuming.{greatest_timestamp, is_ended, below, marks_of, resumed, IsResumed}
+use Rattle.mt_record.proofs.Opened.{plain_own}
 use Rattle.mt_record.proofs.OneReading.{one_reading_of}
 use Rattle.mt_scan.specs.Cutoff.{IsCutoff}
 use Rattle.mt_scan.specs.PartScans.{KnownPart}
@@ -357,21 +358,21 @@ base_ends : (logs : List (LogOf OpenFile)) (base : Option CheckpointReading) (wr
 base_ends logs None written cutoff above is = tt
 base_ends logs (Some base) written cutoff above is = above base.end is.1
 
-crashed : (acked : List Update) (logs : List (LogOf OpenFile)) (checkpoints : Checkpoints) (left parts : List (List ℕ)) → AllZip IsLeftOf (those_there logs) left
+crashed : (acked : List Update) (logs : List (LogOf OpenFile)) (checkpoints : Checkpoints) (left parts : List (List ℕ)) → AllZip (IsLeftOf (those_there logs)) (those_there logs) left
     → AreLeftOf checkpoints parts → IsRunning acked logs checkpoints → IsDown acked (map as_written logs) left parts
 crashed acked logs checkpoints left parts are of_parts is =
     let files = those_there logs in
-    let says = all_left files left is.opens.each are in
-    let some = found_some left parts says.0 of_parts.known (omega (arith, is.some, AllZip-long SaysLeft files says.0 says.2)) says.1 (writers_left files says.0 is.opens says.2) of_parts.are_known in
+    let says = all_left files files left is.opens.each are in
+    let some = found_some left parts says.0 of_parts.known (omega (arith, is.some, AllZip-long (SaysLeft files) files says.0 says.2)) says.1 (writers_left files says.0 is.opens says.2) of_parts.are_known in
     let facts = some.facts in
-    let said = subst (λ (rs : List LogReading). AllZip SaysLeft files rs) (sym some.same) says.2 in
+    let said = subst (λ (rs : List LogReading). AllZip (SaysLeft files) files rs) (sym some.same) says.2 in
     let valid = subst (λ (ks : List KnownPart). (c : CheckpointReading) → IsValid ks c → Contains checkpoints.written c) (sym some.same_known) of_parts.no_other in
     let base_valid = subst (λ (ks : List KnownPart). IfSome checkpoints.base (IsValid ks)) (sym some.same_known) of_parts.base_is in
     let past = λ (time : ℕ) (above : AllSyncedAbove time files). last_above time files facts.readings facts.cutoff said above facts.is_cutoff.has in
     let rises = begins_no_earlier checkpoints.base checkpoints.written facts.known facts.cutoff facts.chosen is.rise valid base_valid (base_ends logs checkpoints.base checkpoints.written facts.cutoff past is.base_is) facts.is_chosen in record {
       facts = facts;
       found = record {
-        no_gap = λ i gap. gaps_stay (begin_of checkpoints.base) (map file_reading files) facts.readings (zip_claims files facts.readings said) is.opens.no_gap i
+        no_gap = λ i gap. gaps_stay (begin_of checkpoints.base) (map file_reading files) facts.readings (zip_claims files files facts.readings said) is.opens.no_gap i
             (less_gaps (begin_of checkpoints.base) (begin_of facts.chosen) facts.readings i rises gap);
         ends = λ x y at_x at_y earlier ended. inl (ends_left files facts.readings is.opens said x y at_x at_y earlier ended);
         agree = subst (AllZip (AgreeBelow facts.cutoff) (records_of facts.readings)) (sym (there_written logs))
@@ -506,6 +507,17 @@ all_of_it log is = record {
   lost = [];
   begins = sym (append-nil (file_bytes log));
   header = record { head = log.head; is_head = is.is_log.is_head; more = flat_map spelling log.records; spelled = refl };
+}
+
+-- a file that is synced whole may be left as it is
+pub left_whole : (logs : List OpenFile) (log : OpenFile) → IsReading (file_bytes log) (file_reading log) → log.synced ≡ file_bytes log → IsLeftOf logs log (file_bytes log)
+left_whole logs log is whole = record {
+  text = file_bytes log;
+  torn = false;
+  opens = inl (plain_own (file_bytes log) log.head (flat_map spelling log.records) refl, refl);
+  synced = subst (λ (bytes : List ℕ). IsCutOf bytes (file_bytes log)) (sym whole) (all_of_it log is);
+  written = all_of_it log is;
+  whole = λ later at behind. refl;
 }
 
 opens_afresh : (cutoff : ℕ) (reading : LogReading) (log : OpenFile) → IsAfresh cutoff reading log → IsOpenFile log

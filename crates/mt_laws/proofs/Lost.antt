@@ -26,10 +26,10 @@ use Rattle.mt_scan.specs.Segments.{IsGap}
 use Rattle.mt_scan.proofs.SegmentCases.{from_begin}
 use Rattle.mt_recover.specs.Recovery.{AreReadings, entry_updates, begin_of, survivors, records_of, IsStoreOf}
 use Rattle.mt_recover.proofs.FoundLemmas.{alone}
-use Rattle.mt_writer.specs.Files.{IsCutOf}
+use Rattle.mt_writer.specs.Files.{IsCutFileOf}
 use Rattle.mt_laws.specs.Crashes.{IsBeginningOf, IsAlone, NoSegments, IsCrash}
 use Rattle.mt_laws.proofs.Windows.{within, outside, one_outside}
-use Rattle.mt_laws.proofs.CutLogs.{cut_log}
+use Rattle.mt_laws.proofs.CutLogs.{cut_file}
 
 -- ---- timestamps and the window
 
@@ -128,11 +128,11 @@ one_reaches cutoff from begin last low reaches = elim (cases_lt last cutoff) as 
   | inr most ↦ inl most
 ]
 
-one_cut : (window : Window) (left written : List ℕ) (history log : LogReading) → IsCutOf left written → IsReading written history → IsReading left log
+one_cut : (window : Window) (left written : List ℕ) (history log : LogReading) → IsCutFileOf left written → IsReading written history → IsReading left log
     → history.head.segment ≡ None → (log.head.segment ≡ None → log.head.from ≤ window.begin) → (log.head.segment ≡ None → (last : ℕ) → IsLast log last → window.cutoff ≤ last)
     → LosesNothing window log history
 one_cut window left written history log cut is is_log none low least =
-    let said = cut_log left written history is cut in
+    let said = cut_file left written history is cut in
     let begins = subst (λ (x : LogReading). IsBeginningOf x history) (one_reading_of left said.log log said.is_reading is_log) said.begins in
     let alone : log.head.segment ≡ None = ap (λ (head : Head). head.segment) begins.head ∙ none in
     let last = least alone (max log.head.from (latest 0 log.records)) (last_is (limits_of log.head.format) log is_log.is_log.lawful) in record {
@@ -142,7 +142,7 @@ one_cut window left written history log cut is is_log none low least =
       reaches = one_reaches window.cutoff log.head.from window.begin (latest 0 log.records) (low alone) last;
     }
 
-all_cut : (window : Window) (left written : List (List ℕ)) (hs ls : List LogReading) → AllZip IsCutOf left written → AreReadings written hs → AreReadings left ls
+all_cut : (window : Window) (left written : List (List ℕ)) (hs ls : List LogReading) → AllZip IsCutFileOf left written → AreReadings written hs → AreReadings left ls
     → NoSegments hs → ((log : LogReading) → Contains ls log → log.head.segment ≡ None → log.head.from ≤ window.begin)
     → ((log : LogReading) → Contains ls log → log.head.segment ≡ None → (last : ℕ) → IsLast log last → window.cutoff ≤ last)
     → AllZip (LosesNothing window) ls hs

@@ -10,13 +10,18 @@ use Rattle.mt_words.specs.declared.limits.Limits.{Limits}
 use Rattle.mt_words.specs.Limits.{limits_of}
 use Rattle.mt_words.specs.Changes.{Logged, is_mark}
 use Rattle.mt_words.proofs.Elements.{no_element, head_or_tail, head_in, tail_in}
+use Rattle.mt_record.specs.Opening.{text_head, joined, text_of, is_torn, Opens}
 use Rattle.mt_record.specs.Logs.{AreRecords, log_bytes, LogReading, IsReading, times_of}
 use Rattle.mt_record.specs.LogTexts.{IsLast}
 use Rattle.mt_record.proofs.Opened.{whole_reading}
 use Rattle.mt_record.proofs.OneReading.{one_reading_of}
 use Rattle.mt_replay.proofs.Members.{of_map, in_map, of_filter}
 use Rattle.mt_words.specs.Built.{mark_of}
-use Rattle.mt_record.specs.Resuming.{greatest_timestamp, is_end, is_ended, below, marks_of, resumed, IsResumed}
+use Rattle.mt_record.specs.Resuming.{greatest_timestamp, is_end, is_ended, below, marks_of, resumed, IsResumed, resumed_header, Replaces}
+use Rattle.mt_writer.specs.Files.{HasHeader}
+use Rattle.mt_laws.specs.Resuming.{IsReplaced}
+use Rattle.mt_laws.proofs.CutLogs.{file_says, text_says}
+use Rattle.mt_record.proofs.FileFeeds.{text_is_head}
 
 -- ---- records below a timestamp
 
@@ -123,6 +128,49 @@ reading_after cutoff before after log fits is to =
     let same : to.log ≡ log = one_reading_of before to.log log to.is_reading is in
     let said = resumed_reading cutoff before to.log fits to.is_reading in
     subst (λ (l : LogReading). IsReading after (resumed cutoff l)) same (subst (λ (bytes : List ℕ). IsReading bytes (resumed cutoff to.log)) (sym to.spelled) said)
+
+-- so is what replaces a file
+pub replaced_reading : (cutoff : ℕ) (before after : List ℕ) (log : LogReading) → IsReading before log → IsReplaced cutoff before after → IsReading after (resumed cutoff log)
+replaced_reading cutoff before after log is to =
+    subst (λ (l : LogReading). IsReading after (resumed cutoff l)) (one_reading_of before to.log log to.is_reading is) to.says
+
+-- a file is replaced by what replaces its text
+text_replaced : (before text after : List ℕ) (torn : Bool) (cutoff : ℕ) → cutoff < 2 ^ 64 → Opens before text torn → IsResumed cutoff text after → IsReplaced cutoff before after
+text_replaced before text after torn cutoff fits opens to = by opens
+  where
+    says : IsReading after (resumed cutoff to.log)
+    says = reading_after cutoff text after to.log fits to.is_reading to
+
+    by : Opens before text torn → IsReplaced cutoff before after
+    by (inl own) = record { log = to.log; is_reading = subst (λ (bytes : List ℕ). IsReading bytes to.log) own.0.1 to.is_reading; says = says }
+    by (inr is) =
+        let header : HasHeader text = record { head = text_head is.header; is_head = text_is_head is.header is.is_file.begins.is_header; more = joined is.bodies; spelled = is.is_text } in record {
+          log = record to.log { torn = torn || to.log.torn };
+          is_reading = file_says before text torn to.log opens (text_says text to.log header to.is_reading);
+          says = says;
+        }
+
+-- a file of any format may replace it, if its text does
+any_format : (before text after : List ℕ) (cutoff : ℕ) → Opens after text false → IsReplaced cutoff before text → IsReplaced cutoff before after
+any_format before text after cutoff opens to = by opens
+  where
+    by : Opens after text false → IsReplaced cutoff before after
+    by (inl own) = record { log = to.log; is_reading = to.is_reading; says = subst (λ (bytes : List ℕ). IsReading bytes (resumed cutoff to.log)) own.0.1 to.says }
+    by (inr is) =
+        let header : HasHeader text = record { head = text_head is.header; is_head = text_is_head is.header is.is_file.begins.is_header; more = joined is.bodies; spelled = is.is_text } in record {
+          log = to.log;
+          is_reading = to.is_reading;
+          says = file_says after text false (resumed cutoff to.log) opens (text_says text (resumed cutoff to.log) header to.says);
+        }
+
+-- a file that replaces a log says what replaces it
+pub file_replaced : (before after : List ℕ) (cutoff salt : ℕ) → cutoff < 2 ^ 64 → Replaces cutoff salt before after → IsReplaced cutoff before after
+file_replaced before after cutoff salt fits (inl (plain, to)) = text_replaced before before after false cutoff fits (inl ((plain, refl), refl)) to
+file_replaced before after cutoff salt fits (inr again) =
+    let header = resumed_header cutoff salt again.header in
+    let opens : Opens before (text_of again.header again.bodies) (is_torn again.end) = inr (record { header = again.header; bodies = again.bodies; end = again.end; is_file = again.is_file; is_text = refl; ends = refl }) in
+    let reads : Opens after (text_of header again.new) false = inr (record { header = header; bodies = again.new; end = []; is_file = again.replaces; is_text = refl; ends = refl }) in
+    any_format before (text_of header again.new) after cutoff reads (text_replaced before (text_of again.header again.bodies) (text_of header again.new) (is_torn again.end) cutoff fits opens again.is_resumed)
 
 -- ---- the times
 

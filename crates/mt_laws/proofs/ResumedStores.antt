@@ -18,10 +18,10 @@ use Rattle.mt_replay.proofs.Members.{of_map}
 use Rattle.mt_scan.specs.Segments.{IsGap}
 use Rattle.mt_recover.specs.Recovery.{AreReadings, Facts, begin_of, entry_updates, survivors, records_of, IsStoreOf}
 use Rattle.mt_recover.proofs.OneVerdict.{same_facts}
-use Rattle.mt_record.specs.Resuming.{resumed, IsResumed}
-use Rattle.mt_laws.specs.Resuming.{IsSameOrResumed, NoneBecomesValid, IsOnTheWay, FindTheSame}
+use Rattle.mt_record.specs.Resuming.{resumed}
+use Rattle.mt_laws.specs.Resuming.{IsReplaced, IsSameOrResumed, NoneBecomesValid, IsOnTheWay, FindTheSame}
 use Rattle.mt_laws.proofs.Agreeing.{AgreeBelow, resumed_agrees, agreeing_survive}
-use Rattle.mt_laws.proofs.Resumed.{reading_after, reaches_cutoff, times_after, resumed_twice}
+use Rattle.mt_laws.proofs.Resumed.{replaced_reading, reaches_cutoff, times_after, resumed_twice}
 use Rattle.mt_laws.proofs.Paired.{partner_of, zip_weaker, zip_map, zip_through}
 use Rattle.mt_laws.proofs.ResumedLogs.{Replaces, all_claim, writers_stay, gaps_stay, cutoff_stays, cutoff_time}
 
@@ -99,7 +99,7 @@ record SayNow (cutoff : ℕ) (readings : List LogReading) (now : List (List ℕ)
 one_now : (cutoff : ℕ) (before now : List ℕ) (log : LogReading) → cutoff < 2 ^ 64 → IsReading before log → IsSameOrResumed cutoff before now
     → (new : LogReading) × IsReading now new × Became cutoff log new
 one_now cutoff before now log fits is (inl e) = (log, subst (λ (bytes : List ℕ). IsReading bytes log) (sym e) is, record { limits = limits_of log.head.format; lawful = is.is_log.lawful; fits = fits; how = inl refl })
-one_now cutoff before now log fits is (inr to) = (resumed cutoff log, reading_after cutoff before now log fits is to, record { limits = limits_of log.head.format; lawful = is.is_log.lawful; fits = fits; how = inr refl })
+one_now cutoff before now log fits is (inr to) = (resumed cutoff log, replaced_reading cutoff before now log is to, record { limits = limits_of log.head.format; lawful = is.is_log.lawful; fits = fits; how = inr refl })
 
 say_now : (cutoff : ℕ) (logs : List (List ℕ)) (readings : List LogReading) (now : List (List ℕ)) → cutoff < 2 ^ 64 → AreReadings logs readings
     → AllZip (IsSameOrResumed cutoff) logs now → SayNow cutoff readings now
@@ -192,19 +192,18 @@ same_on_way logs parts now left pairs store way after =
     }
 
 -- resuming from a state on the way
-one_again : (cutoff : ℕ) → cutoff < 2 ^ 64 → (before after : List ℕ) → (now : List ℕ) × IsSameOrResumed cutoff before now × IsResumed cutoff now after
-    → IsResumed cutoff before after
-one_again cutoff fits before after (now, inl e, to) = subst (λ (bytes : List ℕ). IsResumed cutoff bytes after) e to
+one_again : (cutoff : ℕ) → cutoff < 2 ^ 64 → (before after : List ℕ) → (now : List ℕ) × IsSameOrResumed cutoff before now × IsReplaced cutoff now after
+    → IsReplaced cutoff before after
+one_again cutoff fits before after (now, inl e, to) = subst (λ (bytes : List ℕ). IsReplaced cutoff bytes after) e to
 one_again cutoff fits before after (now, inr half, to) =
-    let new = reading_after cutoff before now half.log fits half.is_reading half in
-    let same : resumed cutoff to.log ≡ resumed cutoff half.log = ap (resumed cutoff) (one_reading_of now to.log (resumed cutoff half.log) to.is_reading new) ∙ resumed_twice cutoff half.log in
-    record { log = half.log; is_reading = half.is_reading; spelled = to.spelled ∙ ap (λ (l : LogReading). log_bytes l.head l.records) same }
+    let same : resumed cutoff to.log ≡ resumed cutoff half.log = ap (resumed cutoff) (one_reading_of now to.log (resumed cutoff half.log) to.is_reading half.says) ∙ resumed_twice cutoff half.log in
+    record { log = half.log; is_reading = half.is_reading; says = subst (IsReading after) same to.says }
 
 pub resume_again : (logs parts now left after : List (List ℕ)) (pairs : List Pair) (store : IsStoreOf logs parts pairs) → IsOnTheWay store.basis.facts now left
-    → (found : Facts now left) → AllZip (IsResumed found.cutoff) now after → AllZip (IsResumed store.basis.facts.cutoff) logs after
+    → (found : Facts now left) → AllZip (IsReplaced found.cutoff) now after → AllZip (IsReplaced store.basis.facts.cutoff) logs after
 resume_again logs parts now left after pairs store way found to =
     let facts = store.basis.facts in
     let same = (same_on_way logs parts now left pairs store way found).cutoff in
-    zip_weaker (λ before then. (between : List ℕ) × IsSameOrResumed facts.cutoff before between × IsResumed facts.cutoff between then) (IsResumed facts.cutoff) logs after
+    zip_weaker (λ before then. (between : List ℕ) × IsSameOrResumed facts.cutoff before between × IsReplaced facts.cutoff between then) (IsReplaced facts.cutoff) logs after
     (one_again facts.cutoff (cutoff_fits logs facts.readings facts.cutoff facts.read facts.is_cutoff))
-    (zip_through (IsSameOrResumed facts.cutoff) (IsResumed facts.cutoff) logs now after way.each (subst (λ (cutoff : ℕ). AllZip (IsResumed cutoff) now after) same to))
+    (zip_through (IsSameOrResumed facts.cutoff) (IsReplaced facts.cutoff) logs now after way.each (subst (λ (cutoff : ℕ). AllZip (IsReplaced cutoff) now after) same to))

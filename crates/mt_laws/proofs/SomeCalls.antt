@@ -1,5 +1,5 @@
 -- There are calls of a server by which an update is acknowledged, a segment follows, a checkpoint is written, and the old segment is deleted.
-use Rattle.std.proofs.Common.{◌≡◌, ◌⊎◌, inl, inr, ℕ, ◌+◌, ◌-◌, ◌^◌, ◌<◌, ◌≤◌, false, None, List, [], ◌∷◌, ◌++◌, length, Contains, refl, sym, ap, ◌∙◌, subst, arith}
+use Rattle.std.proofs.Common.{◌≡◌, ◌⊎◌, inl, inr, ℕ, ◌+◌, ◌-◌, ◌^◌, ◌<◌, ◌≤◌, false, Some, None, List, [], ◌∷◌, ◌++◌, length, Contains, refl, sym, ap, ◌∙◌, subst, arith}
 use Rattle.std.proofs.lemmas.Bool.{true≢false}
 use Rattle.std.proofs.lemmas.List.{length-append}
 use Rattle.mt_words.specs.declared.update.Update.{Update}
@@ -10,7 +10,10 @@ use Rattle.mt_words.specs.Limits.{widest}
 use Rattle.mt_words.specs.Walks.{Pair}
 use Rattle.mt_words.proofs.Elements.{no_element, head_or_tail, head_in, tail_in}
 use Rattle.mt_record.specs.declared.feed.head.Head.{Head}
+use Rattle.mt_block.specs.declared.header.Header.{Header}
+use Rattle.mt_block.specs.Blocks.{header_bytes, mark_of as mark_in, block}
 use Rattle.mt_record.specs.Encoding.{segment_head}
+use Rattle.mt_record.specs.Opening.{text_head}
 use Rattle.mt_record.specs.Logs.{log_bytes}
 use Rattle.mt_record.specs.Spelling.{spelling}
 use Rattle.mt_replay.specs.Survivors.{log_updates}
@@ -20,28 +23,35 @@ use Rattle.mt_writer.proofs.JournalLemmas.{reached, held_more, taken_all, synced
 use Rattle.mt_laws.specs.Lives.{IsBehind, LogOf, there, deleted, AreOld, Checkpoints, only}
 use Rattle.mt_laws.specs.Names.{IsLowest}
 use Rattle.mt_laws.specs.Writing.{Slot, writing, sealed, coming, going, gone, IsLogReached, IsRead, Server, with_slot, append, hand_out, told_synced, tell_client, seal, begin_segment, told_created, count_up, checkpoint as read_checkpoint, stand_on, delete, told_deleted, IsCrashOf, Called, new_server, called}
-use Rattle.mt_laws.proofs.Living.{all_of_it}
+use Rattle.mt_laws.proofs.Living.{left_whole}
 use Rattle.mt_laws.proofs.SomeLife.{only_one, of_two, update_in, walk, checkpoint, sound, part_text, stood, parts_left}
 
 -- ---- writers
 
-abbrev begin : Head → ℕ → NewFile
-begin head mark = record { bytes = log_bytes head (mark_of mark ∷ []); mark = mark; segment = head.segment }
+abbrev begin : Header → ℕ → NewFile
+begin header mark = record { bytes = header_bytes header ++ block (mark_in header) (spelling (mark_of mark)); header = header; mark = mark }
 
-abbrev created : Head → ℕ → Writer
-created head mark =
-    let size = length (begin head mark).bytes in
-    record { buffer = []; last = mark; taken = mark; reach = mark; size = size; taken_size = size; synced_size = size; segment = head.segment; failed = false }
+abbrev created : Header → ℕ → Writer
+created header mark = record {
+  mark = Some (mark_in header);
+  buffer = [];
+  last = mark;
+  taken = mark;
+  reach = mark;
+  size = 37;
+  taken_size = 37;
+  synced_size = 37;
+  frames = 40;
+  segment = (text_head header).segment;
+  failed = false;
+}
 
 -- the writer after a record
 abbrev with_record : Writer → Logged → Writer
 with_record w r = record w { buffer = w.buffer ++ spelling r; last = r.timestamp; size = w.size + length (spelling r) }
 
 keeps_record : (w : Writer) (j : Journal) (r : Logged) → Keeps w j → IsLawful widest r → w.last ≤ r.timestamp → Keeps (with_record w r) (holding j r)
-keeps_record w j r keeps lawful rises =
-    let bytes = w.buffer ++ spelling r in
-    let size : w.size + length (spelling r) ≡ w.size + (length bytes - length w.buffer) = omega (arith, length-append w.buffer (spelling r)) in
-    held_more w (with_record w r) j r bytes (length w.buffer) keeps lawful rises refl refl (ap (λ (n : ℕ). record w { buffer = bytes; last = r.timestamp; size = n }) size)
+keeps_record w j r keeps lawful rises = held_more w (with_record w r) j r w.mark (w.buffer ++ spelling r) (w.size + length (spelling r)) keeps lawful rises refl refl refl
 
 -- and after a mark that is synced
 abbrev taken_mark : Writer → ℕ → Writer
@@ -74,23 +84,41 @@ mark_synced s front back w j time so_far keeps fits rises =
 
 -- ---- two segments: a mark at 0, a put at 1 and a mark at 2; then marks at 2 and 3
 
+abbrev header : Header
+header = record { salt = 0; worker = 1; segment = 1; workers = 1; from = 0 }
+
+abbrev next_header : Header
+next_header = record { salt = 1; worker = 1; segment = 2; workers = 1; from = 2 }
+
 abbrev head : Head
 head = segment_head 0 1 1
 
 abbrev next_head : Head
 next_head = segment_head 2 1 2
 
-begins : Begins (begin head 0) head
-begins = record { format = refl; is_head = record { from = omega arith; segment = (refl, omega arith, omega arith) }; claim = omega arith; fits = omega arith; bytes = refl; segment = refl }
+begins : Begins (begin header 0) head
+begins = record {
+  text = refl;
+  is_header = record { salt = omega arith; worker = omega arith; segment = omega arith; workers = omega arith; from = omega arith };
+  claim = omega arith;
+  fits = omega arith;
+  bytes = refl;
+}
 
-next_begins : Begins (begin next_head 2) next_head
-next_begins = record { format = refl; is_head = record { from = omega arith; segment = (refl, omega arith, omega arith) }; claim = omega arith; fits = omega arith; bytes = refl; segment = refl }
+next_begins : Begins (begin next_header 2) next_head
+next_begins = record {
+  text = refl;
+  is_header = record { salt = omega arith; worker = omega arith; segment = omega arith; workers = omega arith; from = omega arith };
+  claim = omega arith;
+  fits = omega arith;
+  bytes = refl;
+}
 
-keeps_new : Keeps (created head 0) (begun head 0)
-keeps_new = begun_keeps (begin head 0) (created head 0) head begins refl
+keeps_new : Keeps (created header 0) (begun head 0)
+keeps_new = begun_keeps (begin header 0) (created header 0) head begins refl
 
-keeps_next : Keeps (created next_head 2) (begun next_head 2)
-keeps_next = begun_keeps (begin next_head 2) (created next_head 2) next_head next_begins refl
+keeps_next : Keeps (created next_header 2) (begun next_head 2)
+keeps_next = begun_keeps (begin next_header 2) (created next_header 2) next_head next_begins refl
 
 abbrev put : Logged
 put = put_of 1 1 [] ((0, []) ∷ [])
@@ -102,10 +130,10 @@ abbrev with_put : Journal
 with_put = holding (begun head 0) put
 
 abbrev put_writer : Writer
-put_writer = with_record (created head 0) put
+put_writer = with_record (created header 0) put
 
 keeps_put : Keeps put_writer with_put
-keeps_put = keeps_record (created head 0) (begun head 0) put keeps_new put_lawful (omega arith)
+keeps_put = keeps_record (created header 0) (begun head 0) put keeps_new put_lawful (omega arith)
 
 abbrev old : Journal
 old = marked with_put 2
@@ -140,7 +168,7 @@ record IsOld : Type 0 where
 
 old_server : IsOld
 old_server =
-    let a = new_server (created head 0) (begin head 0) head keeps_new refl in
+    let a = new_server (created header 0) (begin header 0) head keeps_new refl in
     let b = called (server 0 [] (writing (begun head 0) ∷ []) (only None)) (server 1 [] (writing with_put ∷ []) (only None)) a
     (append (server 0 [] (writing (begun head 0) ∷ []) (only None)) [] [] put_writer (begun head 0) put keeps_put (refl, omega arith)) in
     let c = mark_synced (server 1 [] (writing with_put ∷ []) (only None)) [] [] put_writer with_put 2 b keeps_put (omega arith) (omega arith) in
@@ -154,7 +182,7 @@ old_server =
 -- the next segment follows
 record IsNext : Type 0 where
   so_far : Called (server 1 acked (sealed old ∷ writing new ∷ []) (only None))
-  keeps : Keeps (synced_mark (created next_head 2) 3) new
+  keeps : Keeps (synced_mark (created next_header 2) 3) new
 
 not_behind : IsBehind (file_of old) (file_of old) → ⊥
 not_behind is = let less : 1 < 1 = is.1 in omega (arith, less)
@@ -173,11 +201,11 @@ next_server =
     let shut = server 1 acked (sealed old ∷ []) (only None) in
     let a = called one shut old_server.so_far (seal one [] [] old refl) in
     let b = called shut (server 1 acked (sealed old ∷ coming (begun next_head 2) ∷ []) (only None)) a
-    (begin_segment shut (created next_head 2) (begin next_head 2) old 2 1 1 (head_in (sealed old) []) is_sealed
+    (begin_segment shut (created next_header 2) (begin next_header 2) old 2 1 1 (head_in (sealed old) []) is_sealed
     (λ other at behind. not_behind (subst (IsBehind (file_of old)) (sym (only_one (file_of old) other at)) behind)) keeps_next next_begins refl) in
     let c = called (server 1 acked (sealed old ∷ coming (begun next_head 2) ∷ []) (only None)) (server 1 acked (sealed old ∷ writing (begun next_head 2) ∷ []) (only None)) b
     (told_created (server 1 acked slots (only None)) (sealed old ∷ []) [] (begun next_head 2)) in
-    let d = mark_synced (server 1 acked slots (only None)) (sealed old ∷ []) [] (created next_head 2) (begun next_head 2) 3 c keeps_next (omega arith) (omega arith) in
+    let d = mark_synced (server 1 acked slots (only None)) (sealed old ∷ []) [] (created next_header 2) (begun next_head 2) 3 c keeps_next (omega arith) (omega arith) in
     record { so_far = d.so_far; keeps = d.keeps }
 
 -- ---- the checkpoint
@@ -208,7 +236,7 @@ all_reached file at = of_two (IsLogReached 3 files) (file_of old) (file_of new) 
       last = file_of new;
       stands = tail_in (file_of old) (file_of new) (file_of new ∷ []) (head_in (file_of new) []);
       of_log = of_log;
-      reached = reached (synced_mark (created next_head 2) 3) new next_server.keeps;
+      reached = reached (synced_mark (created next_header 2) 3) new next_server.keeps;
     }
 
 stood_server : Called (server 2 acked slots stood)
@@ -249,7 +277,7 @@ SomeCalls = (s : Server) × (u : Update) × (records : List Logged) × Contains 
 
 pub some_calls : SomeCalls
 some_calls =
-    let whole : IsCutOf (file_bytes (file_of new)) (file_bytes (file_of new)) = all_of_it (file_of new) (opens (synced_mark (created next_head 2) 3) new next_server.keeps).is_reading in (
+    let whole = left_whole (file_of new ∷ []) (file_of new) (opens (synced_mark (created next_header 2) 3) new next_server.keeps).is_reading refl in (
       server 2 acked (gone (records_of old) ∷ writing new ∷ []) stood,
       update,
       records_of old,
@@ -260,5 +288,5 @@ some_calls =
       deleted (records_of old) ∷ there (file_of new) ∷ [],
       file_bytes (file_of new) ∷ [],
       part_text ∷ [],
-      record { each = (refl, (refl, tt)); cuts = ((whole, whole), tt); of_parts = parts_left },
+      record { each = (refl, (refl, tt)); cuts = (whole, tt); of_parts = parts_left },
     )

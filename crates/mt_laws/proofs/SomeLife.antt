@@ -19,6 +19,7 @@ use Rattle.mt_record.specs.Heads.{head_bytes}
 use Rattle.mt_record.specs.Logs.{LogReading, IsReading}
 use Rattle.mt_record.specs.Parts.{part_head, part_bytes, PartReading, IsPartReading}
 use Rattle.mt_record.proofs.Opened.{whole_reading}
+use Rattle.mt_record.proofs.PartFiles.{plain_part}
 use Rattle.mt_scan.specs.PartScans.{whole}
 use Rattle.mt_checkpoint.specs.Checkpoints.{entries_with}
 use Rattle.mt_scan.specs.Choice.{CheckpointReading, parts_of, IsValid}
@@ -30,11 +31,11 @@ use Rattle.mt_replay.specs.Walk.{IsWalk}
 use Rattle.mt_replay.proofs.Members.{of_map}
 use Rattle.mt_writer.specs.Files.{OpenFile, file_bytes, file_reading, HasSynced, IsOpenFile}
 use Rattle.mt_laws.specs.Crashes.{IsSound}
-use Rattle.mt_laws.specs.Lives.{IsBehind, AreOpen, IsSyncedAbove, AllSyncedAbove, LogOf, there, deleted, Checkpoints, AreLeftOf, only, IsAdded, AreDeleted, running, down, acknowledge, add_file, write_checkpoint, stand, delete, crash, Life, begun, then}
+use Rattle.mt_laws.specs.Lives.{IsBehind, AreOpen, IsSyncedAbove, AllSyncedAbove, LogOf, there, deleted, those_there, Checkpoints, AreLeftOf, only, IsAdded, AreDeleted, running, down, acknowledge, add_file, write_checkpoint, stand, delete, crash, Life, begun, then}
 use Rattle.mt_laws.proofs.Deleted.{not_made_of_none}
 use Rattle.mt_laws.proofs.LeftFiles.{none_at}
 use Rattle.mt_laws.proofs.Afresh.{AreStored, fresh_sound}
-use Rattle.mt_laws.proofs.Living.{all_of_it, listed_rise}
+use Rattle.mt_laws.proofs.Living.{all_of_it, left_whole, listed_rise}
 
 pub only_one : {X : Type 0} (one x : X) → Contains (one ∷ []) x → one ≡ x
 only_one one x at = elim (head_or_tail one x [] at) as (λ _. one ≡ x) [ inl e ↦ e | inr none ↦ absurd (no_element x none) ]
@@ -215,16 +216,13 @@ abbrev pub part_text : List ℕ
 part_text = part_bytes (part_head Two 1 2 0 1) (entries_with 1 pairs) 2
 
 is_part : IsPartReading part_text part
-is_part = (
-  Two,
-  record {
-    spelled = refl;
-    is_head = record { number = omega arith; begin = omega arith; part = omega arith; parts = omega arith };
-    lawful = ((record { version = omega arith; version_fits = omega arith; key = omega arith; kind = ((((omega arith, omega arith), tt), (omega arith, tt)), omega arith) }, tt), tt);
-    fits = omega arith;
-    count = omega arith;
-  },
-)
+is_part = plain_part part_text part Two (record {
+  spelled = refl;
+  is_head = record { number = omega arith; begin = omega arith; part = omega arith; parts = omega arith };
+  lawful = ((record { version = omega arith; version_fits = omega arith; key = omega arith; kind = ((((omega arith, omega arith), tt), (omega arith, tt)), omega arith) }, tt), tt);
+  fits = omega arith;
+  count = omega arith;
+})
 
 is_valid : IsValid (whole part ∷ []) checkpoint
 is_valid = record {
@@ -318,5 +316,5 @@ some_life =
       file_bytes new_file ∷ [],
       part_text ∷ [],
       then (running (update ∷ []) last stood) (down (update ∷ []) (deleted old_records ∷ there new_records ∷ []) (file_bytes new_file ∷ []) (part_text ∷ [])) f
-          (crash (update ∷ []) last stood (file_bytes new_file ∷ []) (part_text ∷ []) ((all_of_it new_file new_reading, all_of_it new_file new_reading), tt) parts_left),
+          (crash (update ∷ []) last stood (file_bytes new_file ∷ []) (part_text ∷ []) (left_whole (those_there last) new_file new_reading refl, tt) parts_left),
     )

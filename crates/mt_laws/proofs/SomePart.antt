@@ -2,10 +2,16 @@
 use Rattle.std.proofs.Common.{◌≡◌, ◌⊎◌, inl, inr, ℕ, zero, suc, eqb, ◌^◌, ◌<◌, List, [], ◌∷◌, ◌++◌, length, take, drop, Bool, true, false, refl, sym, ap, subst, ◌∙◌, arith}
 use Rattle.std.proofs.Math.Seq.{take-append_seam}
 use Rattle.std.proofs.lemmas.List.{append-nil}
+use Rattle.std.proofs.lemmas.List.Elements.{All-head}
 use Rattle.std.specs.Prelude.{slice_index}
-use Rattle.std.specs.List.{flat_map}
+use Rattle.std.specs.List.{flat_map, All}
 use Rattle.byteorder.specs.Endian.{big_bytes, big_from}
 use Rattle.byteorder.specs.Numbers.{big_number-reads_back}
+use Rattle.mt_block.specs.declared.part_header.PartHeader.{PartHeader}
+use Rattle.mt_block.specs.Parts.{part_header_bytes, part_mark, BeginsPart as BeginsPartFile}
+use Rattle.mt_block.specs.Blocks.{IsBody, IsNext, blocks}
+use Rattle.mt_block.proofs.Deciding.{all_blocks}
+use Rattle.mt_block.proofs.Files.{flat}
 use Rattle.mt_words.specs.declared.record.Change.{Change}
 use Rattle.mt_words.specs.declared.limits.Format.{Format}
 use Rattle.mt_words.specs.declared.limits.Format.TheVariants.{One, Two}
@@ -18,17 +24,21 @@ use Rattle.mt_record.specs.declared.part_text.PartFault.{PartFault}
 use Rattle.mt_record.specs.declared.part_text.PartFault.TheVariants as faults
 use Rattle.mt_record.specs.Spelling.{change_bytes}
 use Rattle.mt_record.specs.Decoding.{change_in}
-use Rattle.mt_record.specs.Parts.{part_head, part_head_bytes, IsPartHead, entry_spelling, footer_bytes, PartReading, IsPartReading}
-use Rattle.mt_record.specs.PartFaults.{HasNoPartHeader, HasNoEntry, BeginsPart, IsPartFault}
+use Rattle.mt_record.specs.Parts.{part_head, part_head_bytes, IsPartHead, entry_spelling, footer_bytes, PartReading, IsPartTextReading, IsSealedPart, part_text_head, part_text_of, IsPartReading}
+use Rattle.mt_record.specs.PartFaults.{HasNoPartHeader, HasNoEntry, BeginsPart, IsBroken, IsBrokenFile, IsPartFault}
+use Rattle.mt_record.specs.PartFeeding.{HasEntries}
+use Rattle.mt_record.specs.Opening.{joined as joined_bodies}
 use Rattle.mt_record.proofs.Decodes.{entry_says}
 use Rattle.mt_record.proofs.Entries.{entry_length, short_entry}
 use Rattle.mt_record.proofs.EntryTexts.{whole_code}
 use Rattle.mt_record.proofs.OnePart.{footer_no_entry, same_beginning, part_begins}
+use Rattle.mt_record.proofs.PartFiles.{part_head_not_sealed, part_header_sealed, part_begins_sealed, in_whole, file_reading}
 use Rattle.mt_record.proofs.Unique.{framed_apart}
 use Rattle.mt_scan.specs.PartScans.{KnownPart, whole, broken, nameless, IsKnown}
 use Rattle.mt_laws.proofs.Decided.{Decided, below, same_bytes, both, alike, three, some_or_none}
 use Rattle.mt_laws.proofs.Items.{Begins, begins_or_none, joined, fewer_left}
 use Rattle.mt_laws.proofs.Fitting.{is_entry}
+use Rattle.mt_laws.proofs.SomePartSeal.{sealed_part_or_not, part_seal_or_none}
 
 -- ---- the header
 
@@ -95,33 +105,34 @@ footer_or_none count rest =
     some_or_none (IsFooter count rest) end (λ other is. ap (λ (r : List ℕ). big_from 0 8 (drop 4 r)) is.2 ∙ big_number-reads_back 8 other (big_bytes 4 count) is.0)
     (three (below end (2 ^ 64)) (below count (2 ^ 32)) (same_bytes rest (footer_bytes end count)))
 
--- if neither an entry nor the footer follows the entries, the bytes are no part
-no_part : (bytes rest : List ℕ) (head : PartHead) (entries : List Change) → BeginsPart bytes head entries rest → HasNoEntry (limits_of head.format) rest
-    → ((end : ℕ) → IsFooter (length entries) rest end → ⊥) → (part : PartReading) → IsPartReading bytes part → ⊥
-no_part bytes rest head entries begins no_entry no_footer part is =
+-- if neither an entry nor the footer follows the entries, the text is no part
+no_part : (text rest : List ℕ) (head : PartHead) (entries : List Change) → BeginsPart text head entries rest → HasNoEntry (limits_of head.format) rest
+    → ((end : ℕ) → IsFooter (length entries) rest end → ⊥) → (part : PartReading) → IsPartTextReading text part → ⊥
+no_part text rest head entries begins no_entry no_footer part is =
     let footer = footer_bytes part.end (length part.entries) in
-    let same = same_beginning bytes head _ entries part.entries rest footer begins (part_begins bytes _ part.entries part.end is.1) no_entry
+    let same = same_beginning text head _ entries part.entries rest footer begins (part_begins text _ part.entries part.end is.1) no_entry
     (footer_no_entry is.0 footer [] part.end (length part.entries) (sym (append-nil footer))) in
     let count : length part.entries ≡ length entries = ap length (sym same.1) in
     no_footer part.end (is.1.fits, subst (λ (n : ℕ). n < 2 ^ 32) count is.1.count, same.2 ∙ ap (footer_bytes part.end) count)
 
--- ---- the part
+-- ---- the text
 
-abbrev pub PartOrFault : List ℕ → Type 0
-PartOrFault bytes = ((part : PartReading) × IsPartReading bytes part) ⊎ ((fault : PartFault) × IsPartFault bytes fault)
+-- a text that has a header is a part, or broken
+abbrev PartOrBroken : List ℕ → Type 0
+PartOrBroken text = ((part : PartReading) × IsPartTextReading text part) ⊎ ((number : ℕ) × (count : ℕ) × IsBroken text number count)
 
 -- a further entry joins the others
-one_more : (bytes rest : List ℕ) (head : PartHead) (entries : List Change) → BeginsPart bytes head entries rest → (next : Begins (IsEntry (limits_of head.format)) entry_spelling rest)
-    → BeginsPart bytes head (entries ++ next.head ∷ []) next.more
-one_more bytes rest head entries begins next = record {
-  spelled = joined entry_spelling bytes (part_head_bytes head) rest next.more entries next.head begins.spelled next.joins;
+one_more : (text rest : List ℕ) (head : PartHead) (entries : List Change) → BeginsPart text head entries rest → (next : Begins (IsEntry (limits_of head.format)) entry_spelling rest)
+    → BeginsPart text head (entries ++ next.head ∷ []) next.more
+one_more text rest head entries begins next = record {
+  spelled = joined entry_spelling text (part_head_bytes head) rest next.more entries next.head begins.spelled next.joins;
   is_head = begins.is_head;
   lawful = all_push (IsEntry (limits_of head.format)) entries next.head begins.lawful next.is_head;
 }
 
--- if no further entry follows, the bytes are a part with its footer, or broken
-no_more : (bytes rest : List ℕ) (head : PartHead) (entries : List Change) → BeginsPart bytes head entries rest → HasNoEntry (limits_of head.format) rest → PartOrFault bytes
-no_more bytes rest head entries begins none = elim (footer_or_none (length entries) rest) as (λ _. PartOrFault bytes) [
+-- if no further entry follows, the text is a part with its footer, or broken
+no_more : (text rest : List ℕ) (head : PartHead) (entries : List Change) → BeginsPart text head entries rest → HasNoEntry (limits_of head.format) rest → PartOrBroken text
+no_more text rest head entries begins none = elim (footer_or_none (length entries) rest) as (λ _. PartOrBroken text) [
   | inl footer ↦ inl (
     record { number = head.number; begin = head.begin; part = head.part; parts = head.parts; entries = entries; end = footer.0 },
     (
@@ -136,28 +147,102 @@ no_more bytes rest head entries begins none = elim (footer_or_none (length entri
     ),
   )
   | inr no_footer ↦ inr (
-    faults.Broken head.number (length entries),
+    head.number,
+    length entries,
     record {
       front = record { head = head; entries = entries; rest = rest; begins = begins; named = refl; counted = refl };
       no_entry = none;
-      no_part = no_part bytes rest head entries begins none no_footer;
+      no_part = no_part text rest head entries begins none no_footer;
     },
   )
 ]
 
 -- `n` bounds the number of bytes left
-after_entries : (n : ℕ) (bytes rest : List ℕ) (head : PartHead) (entries : List Change) → length rest < n → BeginsPart bytes head entries rest → PartOrFault bytes
-after_entries zero bytes rest head entries fewer begins = absurd (omega (arith, fewer))
-after_entries (suc n) bytes rest head entries fewer begins = elim (entry_or_none head.format rest) as (λ _. PartOrFault bytes) [
-  | inl next ↦ after_entries n bytes next.more head (entries ++ next.head ∷ []) (fewer_left n rest (change_bytes next.head) next.more fewer next.joins) (one_more bytes rest head entries begins next)
-  | inr none ↦ no_more bytes rest head entries begins none
+after_entries : (n : ℕ) (text rest : List ℕ) (head : PartHead) (entries : List Change) → length rest < n → BeginsPart text head entries rest → PartOrBroken text
+after_entries zero text rest head entries fewer begins = absurd (omega (arith, fewer))
+after_entries (suc n) text rest head entries fewer begins = elim (entry_or_none head.format rest) as (λ _. PartOrBroken text) [
+  | inl next ↦ after_entries n text next.more head (entries ++ next.head ∷ []) (fewer_left n rest (change_bytes next.head) next.more fewer next.joins) (one_more text rest head entries begins next)
+  | inr none ↦ no_more text rest head entries begins none
+]
+
+part_or_broken : (text more : List ℕ) (head : PartHead) → IsPartHead head → text ≡ part_head_bytes head ++ more → PartOrBroken text
+part_or_broken text more head is e = after_entries (suc (length more)) text more head [] (omega arith) (record { spelled = e; is_head = is; lawful = tt })
+
+-- ---- the file
+
+abbrev pub PartOrFault : List ℕ → Type 0
+PartOrFault bytes = ((part : PartReading) × IsPartReading bytes part) ⊎ ((fault : PartFault) × IsPartFault bytes fault)
+
+plain_file : (bytes : List ℕ) → (IsSealedPart bytes → ⊥) → PartOrFault bytes
+plain_file bytes plain = elim (header_or_none bytes) as (λ _. PartOrFault bytes) [
+  | inl begins ↦ by (part_or_broken bytes begins.more begins.head begins.is_head begins.joins)
+  | inr none ↦ inr (faults.Header, (none, λ header more is e. plain (part_header_sealed bytes header more e)))
+]
+  where
+    by : PartOrBroken bytes → PartOrFault bytes
+    by (inl (part, is)) = inl (part, record { text = bytes; opens = inl (plain, refl); is_part = is })
+    by (inr (number, count, fails)) = inr (faults.Broken number count, inl (plain, fails))
+
+-- the entries of a part are followed by its footer, and by no entry
+ended : (text : List ℕ) (part : PartReading) → IsPartTextReading text part → HasEntries text part.number (length part.entries)
+ended text part is =
+    let footer = footer_bytes part.end (length part.entries) in record {
+      front = record { head = part_head is.0 part.number part.begin part.part part.parts; entries = part.entries; rest = footer; begins = part_begins text _ part.entries part.end is.1; named = refl; counted = refl };
+      no_entry = footer_no_entry is.0 footer [] part.end (length part.entries) (sym (append-nil footer));
+    }
+
+-- no block stands at this place
+abbrev NoBlockThere : ℕ → List ℕ → Type 0
+NoBlockThere mark rest = (body after : List ℕ) → IsNext mark rest body after → ⊥
+
+none_behind : (mark : ℕ) (rest end : List ℕ) (more : List (List ℕ)) → NoBlockThere mark rest → All IsBody more → rest ≡ blocks mark more ++ end → more ≡ []
+none_behind mark rest end [] none are e = refl
+none_behind mark rest end (b ∷ bs) none are e = absurd (none b (blocks mark bs ++ end) (record { spelled = e ∙ flat mark b bs end; is_body = All-head IsBody b bs are }))
+
+-- no block stands behind the blocks, and no further entry in their text, and the bytes are no part
+stops_there : (bytes : List ℕ) (header : PartHeader) (bodies : List (List ℕ)) (rest : List ℕ) (number count : ℕ) → BeginsPartFile bytes header bodies rest → NoBlockThere (part_mark header) rest
+    → HasEntries (part_text_of header bodies) number count → ((part : PartReading) → IsPartTextReading (part_text_of header bodies) part → rest ≡ [] → ⊥) → IsBrokenFile bytes number count
+stops_there bytes header bodies rest number count begins none has no_part = record {
+  header = header;
+  bodies = bodies;
+  rest = rest;
+  begins = begins;
+  front = has.front;
+  no_entry = λ more behind are e.
+      let z : more ≡ [] = none_behind (part_mark header) rest behind more none are e in
+      subst (HasNoEntry (limits_of has.front.head.format)) (sym (ap (λ (l : List (List ℕ)). has.front.rest ++ joined_bodies l) z ∙ append-nil has.front.rest)) has.no_entry;
+  no_part = λ part is.
+      let goes = in_whole bytes is.text header bodies rest begins (file_reading bytes part (part_begins_sealed bytes header bodies rest begins) is) in
+      let z : goes.more ≡ [] = none_behind (part_mark header) rest [] goes.more none goes.are goes.there in
+      let same : is.text ≡ part_text_of header bodies = goes.is_text ∙ ap (λ (l : List (List ℕ)). part_text_of header bodies ++ joined_bodies l) z ∙ append-nil (part_text_of header bodies) in
+      let gone : rest ≡ [] = goes.there ∙ ap (λ (l : List (List ℕ)). blocks (part_mark header) l ++ []) z in
+      no_part part (subst (λ (text : List ℕ). IsPartTextReading text part) same is.is_part) gone;
+}
+
+-- a file of blocks is a part if its text is one and nothing follows
+blocks_file : (bytes : List ℕ) (header : PartHeader) (bodies : List (List ℕ)) (rest : List ℕ) → BeginsPartFile bytes header bodies rest → NoBlockThere (part_mark header) rest → PartOrBroken (part_text_of header bodies)
+    → PartOrFault bytes
+blocks_file bytes header bodies rest begins none (inr (number, count, fails)) =
+    inr (faults.Broken number count, inr (stops_there bytes header bodies rest number count begins none (record { front = fails.front; no_entry = fails.no_entry }) (λ part is gone. fails.no_part part is)))
+blocks_file bytes header bodies [] begins none (inl (part, is)) =
+    inl (part, record { text = part_text_of header bodies; opens = inr (record { header = header; bodies = bodies; begins = begins; is_text = refl }); is_part = is })
+blocks_file bytes header bodies (b ∷ bs) begins none (inl (part, is)) =
+    inr (faults.Broken part.number (length part.entries), inr (stops_there bytes header bodies (b ∷ bs) part.number (length part.entries) begins none (ended (part_text_of header bodies) part is) (λ other of gone. omega (arith, ap length gone))))
+
+sealed_file : (bytes : List ℕ) → IsSealedPart bytes → PartOrFault bytes
+sealed_file bytes sealed = elim (part_seal_or_none bytes) as (λ _. PartOrFault bytes) [
+  | inl begins ↦
+      let header = begins.head in
+      let found = all_blocks (part_mark header) begins.more in
+      blocks_file bytes header found.bodies found.rest
+      (record { spelled = begins.joins ∙ ap (λ (l : List ℕ). part_header_bytes header ++ l) found.spelled; is_header = begins.is_head; are_bodies = found.are }) found.none
+      (part_or_broken (part_text_of header found.bodies) (joined_bodies found.bodies) (part_text_head header)
+      (record { number = begins.is_head.number; begin = begins.is_head.begin; part = begins.is_head.part; parts = begins.is_head.parts }) refl)
+  | inr none ↦ inr (faults.Header, (λ head more is e. part_head_not_sealed bytes head more e sealed, none))
 ]
 
 pub part_or_fault : (bytes : List ℕ) → PartOrFault bytes
-part_or_fault bytes = elim (header_or_none bytes) as (λ _. PartOrFault bytes) [
-  | inl begins ↦ after_entries (suc (length begins.more)) bytes begins.more begins.head [] (omega arith) (record { spelled = begins.joins; is_head = begins.is_head; lawful = tt })
-  | inr none ↦ inr (faults.Header, none)
-]
+part_or_fault bytes = elim (sealed_part_or_not bytes) as (λ _. PartOrFault bytes) [ inl sealed ↦ sealed_file bytes sealed | inr plain ↦ plain_file bytes plain ]
 
 -- what is known of any bytes as a part
 pub known_of : (bytes : List ℕ) → (known : KnownPart) × IsKnown bytes known

@@ -1,6 +1,6 @@
 -- Bytes are a log or have a fault.
 use Rattle.std.proofs.Common.{◌≡◌, ◌⊎◌, inl, inr, ℕ, zero, suc, eqb, ◌+◌, ◌^◌, ◌<◌, ◌≤◌, List, [], ◌∷◌, ◌++◌, length, take, drop, Option, Some, None, Bool, true, false, refl, sym, ap, subst, ◌∙◌, arith}
-use Rattle.std.proofs.lemmas.Bool.{cases_lt, cases_eq, false≢true}
+use Rattle.std.proofs.lemmas.Bool.{cases_lt, cases_eq}
 use Rattle.std.proofs.lemmas.List.{length-drop, length-take-le, take-append-drop, nil_from_length}
 use Rattle.std.specs.Prelude.{◌==◌, ◌||◌, ◌↔◌, not, IfSome, IsTrue, slice_index}
 use Rattle.std.proofs.lemmas.List.Elements.{All-from_recursion, recursion_from_All}
@@ -35,6 +35,7 @@ use Rattle.mt_record.proofs.Frames.{trailer_fault}
 use Rattle.mt_record.proofs.Numbers.{AreBytes, bytes_back, four, number_front}
 use Rattle.mt_record.proofs.Records.{records_push, tells_torn}
 use Rattle.mt_record.proofs.Unique.{framed_apart}
+use Rattle.mt_laws.proofs.CutLogs.{torn_of}
 use Rattle.mt_laws.proofs.Decided.{Decided, at_most, below, both, alike, three, if_some}
 use Rattle.mt_laws.proofs.Items.{Begins, begins_or_none, joined, fewer_left}
 use Rattle.mt_laws.proofs.Fitting.{Spells, body_or_none, kind_allowed}
@@ -266,11 +267,6 @@ log_or_fault bytes more head is e are = after_records (suc (length more)) bytes 
 abbrev pub ReadingOrFault : List ℕ → Type 0
 ReadingOrFault bytes = ((log : LogReading) × IsReading bytes log) ⊎ ((fault : FeedFault) × IsLogFault bytes fault)
 
--- whether a torn block follows the text, or the text has a torn tail
-torn_of : (limits : Limits) (tail : List ℕ) (ended empty : Bool) → IsTrue (not empty) ↔ IsTorn limits tail → IsTrue (ended || not empty) ↔ (IsTrue ended ⊎ IsTorn limits tail)
-torn_of limits tail true empty tells = (λ _. inl refl, λ _. refl)
-torn_of limits tail false empty tells = (λ torn. inr (tells.0 torn), λ either. elim either as (λ _. IsTrue (not empty)) [ inl wrong ↦ absurd (false≢true wrong) | inr torn ↦ tells.1 torn ])
-
 -- a file whose text is a log
 file_reading : (bytes text : List ℕ) (ended : Bool) → Opens bytes text ended → IsTextLog text → (log : LogReading) × IsReading bytes log
 file_reading bytes text ended opens is = (
@@ -281,7 +277,7 @@ file_reading bytes text ended opens is = (
     opens = opens;
     tail = is.tail;
     is_log = is.is_log;
-    torn = torn_of (limits_of is.head.format) is.tail ended (length is.tail == 0) (tells_torn (limits_of is.head.format) is.tail (length is.tail == 0) refl is.is_log.ends);
+    torn = torn_of (limits_of is.head.format) is.tail ended (not (length is.tail == 0)) (tells_torn (limits_of is.head.format) is.tail (length is.tail == 0) refl is.is_log.ends);
   },
 )
 

@@ -126,7 +126,7 @@ lawful_part [] [] text are at = absurd (no_element (whole text) at)
 lawful_part [] (k ∷ ks) text are at = absurd are
 lawful_part (p ∷ ps) [] text are at = absurd are
 lawful_part (p ∷ ps) (k ∷ ks) text are at = elim (head_or_tail k (whole text) ks at) as (λ _. (format : Format) × AllByRecursion (IsEntry (limits_of format)) text.entries) [
-  | inl e ↦ let is : IsPartReading p text = subst (IsKnown p) e are.0 in (is.0, is.1.lawful)
+  | inl e ↦ let is : IsPartReading p text = subst (IsKnown p) e are.0 in (is.is_part.0, is.is_part.1.lawful)
   | inr later ↦ lawful_part ps ks text are.1 later
 ]
 

@@ -14,9 +14,9 @@ use Rattle.mt_record.proofs.OneReading.{one_reading_of}
 use Rattle.mt_scan.specs.Cutoff.{HasLast}
 use Rattle.mt_recover.specs.Recovery.{AreReadings}
 use Rattle.mt_recover.proofs.FoundLemmas.{alone}
-use Rattle.mt_writer.specs.Files.{IsCutOf}
+use Rattle.mt_writer.specs.Files.{IsCutFileOf}
 use Rattle.mt_laws.specs.Crashes.{IsBeginningOf, IsAlone, AreSyncedBeyond}
-use Rattle.mt_laws.proofs.CutLogs.{cut_log}
+use Rattle.mt_laws.proofs.CutLogs.{cut_file}
 
 -- the times of a beginning are among those of the log
 times_in : (left log : LogReading) (time : ℕ) → IsBeginningOf left log → Contains (times_of left) time → Contains (times_of log) time
@@ -32,10 +32,10 @@ times_in left log time begins at =
 abbrev IsBeyond : ℕ → LogReading → Type 0
 IsBeyond time log = IsAlone log × ((last : ℕ) → IsLast log last → time < last)
 
-one_beyond : (time : ℕ) (synced left : List ℕ) (some log : LogReading) → IsCutOf synced left → IsReading synced some → IsReading left log
+one_beyond : (time : ℕ) (synced left : List ℕ) (some log : LogReading) → IsCutFileOf synced left → IsReading synced some → IsReading left log
     → IsBeyond time some → IsBeyond time log
 one_beyond time synced left some log cut is_some is_log beyond =
-    let said = cut_log synced left log is_log cut in
+    let said = cut_file synced left log is_log cut in
     let begins = subst (λ (x : LogReading). IsBeginningOf x log) (one_reading_of synced said.log some said.is_reading is_some) said.begins in
     let first = last_is (limits_of some.head.format) some is_some.is_log.lawful in
     let n = max some.head.from (latest 0 some.records) in
@@ -46,7 +46,7 @@ one_beyond time synced left some log cut is_some is_log beyond =
           omega (arith, above, most),
     )
 
-all_beyond : (time : ℕ) (synced left : List (List ℕ)) (some logs : List LogReading) → AllZip IsCutOf synced left → AreReadings synced some
+all_beyond : (time : ℕ) (synced left : List (List ℕ)) (some logs : List LogReading) → AllZip IsCutFileOf synced left → AreReadings synced some
     → AreReadings left logs → ((log : LogReading) → Contains some log → IsBeyond time log) → (log : LogReading) → Contains logs log → IsBeyond time log
 all_beyond time [] [] some [] cuts are_some are beyond log at = absurd (no_element log at)
 all_beyond time [] [] some (l ∷ ls) cuts are_some are beyond log at = absurd are

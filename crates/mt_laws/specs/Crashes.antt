@@ -11,7 +11,7 @@ use Rattle.mt_scan.specs.Choice.{CheckpointReading}
 use Rattle.mt_replay.specs.KeyColumns.{HasColumn}
 use Rattle.mt_replay.specs.Survivors.{log_updates}
 use Rattle.mt_recover.specs.Recovery.{AreReadings, begin_of}
-use Rattle.mt_writer.specs.Files.{IsCutOf}
+use Rattle.mt_writer.specs.Files.{IsCutFileOf}
 
 -- ---- logs that a crash cut
 
@@ -38,7 +38,7 @@ NoSegments logs = All IsAlone logs
 -- Logs were written that say this, and a crash left these beginnings of them, one for each log. None of the logs is a segment of a worker's log.
 pub record IsCrash (left : List (List ℕ)) (histories : List LogReading) : Type 0 where
   pub written : List (List ℕ)
-  pub cuts : AllZip IsCutOf left written
+  pub cuts : AllZip IsCutFileOf left written
   pub read : AreReadings written histories
   pub no_segments : NoSegments histories
 
@@ -46,7 +46,7 @@ pub record IsCrash (left : List (List ℕ)) (histories : List LogReading) : Type
 -- None of the logs is a segment of a worker's log.
 pub record AreSyncedBeyond (time : ℕ) (left : List (List ℕ)) : Type 0 where
   pub synced : List (List ℕ)
-  pub begin : AllZip IsCutOf synced left
+  pub begin : AllZip IsCutFileOf synced left
   pub readings : List LogReading
   pub read : AreReadings synced readings
   pub no_segments : NoSegments readings

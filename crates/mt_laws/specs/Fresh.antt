@@ -1,13 +1,11 @@
 -- Starting afresh: recovery from one checkpoint of a store, and from the logs after it.
-use Rattle.std.specs.Prelude.{◌≡◌, ℕ, ◌+◌, ◌<◌, Some, List, [], ◌∷◌, length, map, Contains, IsPermutation}
-use Rattle.std.specs.List.{range_with_len}
-use Rattle.mt_words.specs.declared.limits.Format.TheVariants.{Two}
+use Rattle.std.specs.Prelude.{◌≡◌, ℕ, ◌+◌, ◌<◌, Some, List, length, Contains, IsPermutation}
+use Rattle.std.specs.List.{range_with_len, AllZip}
 use Rattle.mt_words.specs.declared.update.Update.{Update}
-use Rattle.mt_words.specs.Built.{mark_of}
 use Rattle.mt_words.specs.Walks.{Pair}
-use Rattle.mt_record.specs.Encoding.{head_of}
-use Rattle.mt_record.specs.Logs.{LogReading}
-use Rattle.mt_checkpoint.specs.Checkpoints.{Checkpoint, entries_with, part_text, log_text}
+use Rattle.mt_record.specs.Logs.{LogReading, log_bytes}
+use Rattle.mt_record.specs.Parts.{IsPartReading}
+use Rattle.mt_checkpoint.specs.Checkpoints.{Checkpoint, entries_with, part_reading, log_reading}
 use Rattle.mt_scan.specs.Choice.{CheckpointReading}
 use Rattle.mt_scan.specs.Cutoff.{HasLast}
 use Rattle.mt_scan.specs.Segments.{AreWriters, IsGap}
@@ -16,22 +14,22 @@ use Rattle.mt_recover.specs.Recovery.{Facts, survivors, records_of}
 use Rattle.mt_recover.specs.Report.{Outcome}
 use Rattle.mt_writer.specs.Files.{OpenFile}
 
--- the bytes of all parts of the checkpoint, in order
-abbrev pub part_texts : Checkpoint → List (List ℕ)
-part_texts checkpoint = map (part_text checkpoint) (range_with_len 0 (length checkpoint.parts))
-
--- these are all parts of the checkpoint, in any order
-abbrev pub AreAllParts : Checkpoint → List (List ℕ) → Type 0
-AreAllParts checkpoint parts = IsPermutation (part_texts checkpoint) parts
+-- The bytes are those of all parts of the checkpoint, in any order and format: `order` has the number of each.
+pub record AreAllParts (checkpoint : Checkpoint) (parts : List (List ℕ)) : Type 0 where
+  pub order : List ℕ
+  pub all : IsPermutation (range_with_len 0 (length checkpoint.parts)) order
+  pub are_read : AllZip (λ bytes part. IsPartReading bytes (part_reading checkpoint part)) parts order
 
 -- what the checkpoint of these pairs says: it begins and ends at its cutoff, and has an entry for each pair
 abbrev pub reading_with : Checkpoint → List Pair → CheckpointReading
 reading_with checkpoint pairs =
     record { number = checkpoint.number; begin = checkpoint.cutoff; end = checkpoint.cutoff; entries = entries_with checkpoint.version pairs }
 
--- the file of the log that makes the checkpoint count, all of which is synced
+-- the text of the log that makes the checkpoint count, all of which is synced
 abbrev pub log_file : Checkpoint → OpenFile
-log_file checkpoint = record { head = head_of Two checkpoint.cutoff; records = mark_of (checkpoint.cutoff + 1) ∷ []; synced = log_text checkpoint }
+log_file checkpoint =
+    let log = log_reading checkpoint in
+    record { head = log.head; records = log.records; synced = log_bytes log.head log.records }
 
 -- what recovery returns at a fresh start: the pairs, over this checkpoint, and a cutoff one above the checkpoint's
 pub record IsFresh (pairs : List Pair) (checkpoint : Checkpoint) (outcome : Outcome) : Type 0 where

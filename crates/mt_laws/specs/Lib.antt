@@ -5,3 +5,4 @@ pub mod Names
 pub mod Fresh
 pub mod PartFiles
 pub mod Writing
+pub mod Damage

@@ -1,7 +1,7 @@
 -- Lives of a server: it writes, syncs, acknowledges, adds logs and segments, writes checkpoints, deletes old logs, crashes, recovers, and resumes or starts
 -- afresh, as often as it may. A file is added when it is renamed: from then on acknowledgements wait for it. It is deleted when the folder is synced. If a crash
 -- loses a new name or a deleted file before that, the life goes on (`a_crash_of_names`).
-use Rattle.std.specs.Prelude.{◌≡◌, ℕ, ◌≤◌, ◌<◌, ◌⊎◌, true, false, Option, Some, None, IfSome, List, [], ◌∷◌, ◌++◌, length, map, Contains}
+use Rattle.std.specs.Prelude.{◌≡◌, ℕ, ◌≤◌, ◌<◌, ◌⊎◌, Bool, true, false, Option, Some, None, IfSome, List, [], ◌∷◌, ◌++◌, length, map, Contains}
 use Rattle.std.specs.List.{AllZip}
 use Rattle.mt_words.specs.declared.record.Change.{Change}
 use Rattle.mt_words.specs.declared.update.Origin.{Origin}
@@ -10,6 +10,7 @@ use Rattle.mt_words.specs.Changes.{Logged, is_mark, IsLoggedChange}
 use Rattle.mt_words.specs.Limits.{widest}
 use Rattle.mt_words.specs.Updates.{update_at}
 use Rattle.mt_words.specs.Walks.{Pair}
+use Rattle.mt_record.specs.Opening.{Opens}
 use Rattle.mt_record.specs.Logs.{LogReading, IsReading, times_of}
 use Rattle.mt_record.specs.Resuming.{greatest_timestamp, below, resumed}
 use Rattle.mt_checkpoint.specs.Checkpoints.{entries_with}
@@ -153,9 +154,15 @@ only chosen = record { written = listed chosen; base = chosen }
 
 -- ---- steps
 
--- what is left of the file: at least what is synced
-abbrev pub IsLeftOf : OpenFile → List ℕ → Type 0
-IsLeftOf file left = IsCutOf file.synced left × IsCutOf left (file_bytes file)
+-- What is left of one of these files: its text has at least what is synced, and no more than what was written. Anything may follow the text, unless a later segment
+-- of the log is there.
+pub record IsLeftOf (files : List OpenFile) (file : OpenFile) (left : List ℕ) : Type 0 where
+  pub text : List ℕ
+  pub torn : Bool
+  pub opens : Opens left text torn
+  pub synced : IsCutOf file.synced text
+  pub written : IsCutOf text (file_bytes file)
+  pub whole : (later : OpenFile) → Contains files later → IsBehind file later → torn ≡ false
 
 -- the file is what replaces the one that was left, and all of it is synced
 pub record IsResumedAs (cutoff : ℕ) (left : List ℕ) (file : OpenFile) : Type 0 where
@@ -244,7 +251,7 @@ pub data IsStep : State → State → Type 0 where
       → IsStep (running acked logs checkpoints) (running acked logs (record checkpoints { base = Some new }))
   delete : (acked : List Update) (before after : List (LogOf OpenFile)) (checkpoints : Checkpoints) → AreDeleted (begin_of checkpoints.base) before after
       → IsStep (running acked before checkpoints) (running acked after checkpoints)
-  crash : (acked : List Update) (logs : List (LogOf OpenFile)) (checkpoints : Checkpoints) (left parts : List (List ℕ)) → AllZip IsLeftOf (those_there logs) left
+  crash : (acked : List Update) (logs : List (LogOf OpenFile)) (checkpoints : Checkpoints) (left parts : List (List ℕ)) → AllZip (IsLeftOf (those_there logs)) (those_there logs) left
       → AreLeftOf checkpoints parts → IsStep (running acked logs checkpoints) (down acked (map as_written logs) left parts)
   stop : (acked : List Update) (logs : List (LogOf (List Logged))) (left parts now now_parts : List (List ℕ)) (facts : Facts left parts)
       → IsOnTheWay facts now now_parts → IsStep (down acked logs left parts) (down acked logs now now_parts)

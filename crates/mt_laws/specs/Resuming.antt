@@ -5,16 +5,22 @@ use Rattle.mt_words.specs.declared.update.Update.{Update}
 use Rattle.mt_words.specs.Changes.{Logged}
 use Rattle.mt_record.specs.Logs.{LogReading, IsReading}
 use Rattle.mt_record.specs.Parts.{PartReading}
-use Rattle.mt_record.specs.Resuming.{IsResumed}
+use Rattle.mt_record.specs.Resuming.{resumed}
 use Rattle.mt_scan.specs.PartScans.{KnownPart, whole, broken}
 use Rattle.mt_scan.specs.Choice.{CheckpointReading, parts_of, IsValid}
 use Rattle.mt_replay.specs.Survivors.{log_updates}
 use Rattle.mt_scan.specs.Segments.{IsGap}
 use Rattle.mt_recover.specs.Recovery.{AreKnown, Facts, begin_of, survivors, records_of}
 
+-- the file after says what replaces the log of the file before; either has any format
+pub record IsReplaced (cutoff : ℕ) (before after : List ℕ) : Type 0 where
+  pub log : LogReading
+  pub is_reading : IsReading before log
+  pub says : IsReading after (resumed cutoff log)
+
 -- the log is as it was, or it is replaced
 abbrev pub IsSameOrResumed : ℕ → List ℕ → List ℕ → Type 0
-IsSameOrResumed cutoff before after = (after ≡ before) ⊎ IsResumed cutoff before after
+IsSameOrResumed cutoff before after = (after ≡ before) ⊎ IsReplaced cutoff before after
 
 -- ---- every state on the way
 
@@ -56,8 +62,8 @@ pub record AreDeleting (chosen : Option CheckpointReading) (before after : List 
 -- ---- after a resume
 
 -- The whole resume, of the logs and of the parts: each log is replaced, and the chosen checkpoint is the only valid one.
-pub record IsResume {logs parts : List (List ℕ)} (facts : Facts logs parts) (resumed left : List (List ℕ)) : Type 0 where
-  pub each : AllZip (IsResumed facts.cutoff) logs resumed
+pub record IsResume {logs parts : List (List ℕ)} (facts : Facts logs parts) (replaced left : List (List ℕ)) : Type 0 where
+  pub each : AllZip (IsReplaced facts.cutoff) logs replaced
   pub known : List KnownPart
   pub are_known : AreKnown left known
   pub stays : IfSome facts.chosen (IsValid known)

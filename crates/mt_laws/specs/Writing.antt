@@ -11,8 +11,9 @@ use Rattle.mt_scan.specs.Choice.{CheckpointReading}
 use Rattle.mt_replay.specs.KeyColumns.{HasColumn}
 use Rattle.mt_record.specs.Resuming.{below}
 use Rattle.mt_recover.specs.Recovery.{Facts, begin_of}
+use Rattle.mt_writer.specs.Framing.{IsFileOfBlocks}
 use Rattle.mt_writer.specs.Files.{OpenFile, file_bytes}
-use Rattle.mt_writer.specs.Journals.{Journal, Writer, Keeps, file_of, records_of, begun, holding, taking, syncing, NewFile, Begins, IsReached, IsSealed}
+use Rattle.mt_writer.specs.Journals.{Journal, Writer, Keeps, file_of, handed_out, records_of, begun, holding, taking, syncing, NewFile, Begins, IsReached, IsSealed}
 use Rattle.mt_laws.specs.Crashes.{up_to}
 use Rattle.mt_laws.specs.Resuming.{IsOnTheWay}
 use Rattle.mt_laws.specs.Lives.{IsBehind, AreOpen, AllSyncedAbove, LogOf, there, deleted, those_there, as_written, updates_in, AreOld, Checkpoints, only, IsStill, IsLeftOf, AreLeftOf, IsResumedAs, IsFreshStart, State, running}
@@ -208,10 +209,14 @@ pub data IsCall : Server → Server → Type 0 where
 
 -- ---- crashes
 
+-- the file of blocks with the records that are synced, or with those that were taken too
+abbrev pub HasBlocks : (mark : ℕ) → Journal → (file : List ℕ) → Type 0
+HasBlocks mark j file = IsFileOfBlocks mark j.head j.synced file ⊎ IsFileOfBlocks mark j.head (handed_out j) file
+
 -- A crash of the server left these names, these bytes of the files, and these parts.
 pub record IsCrashOf (s : Server) (names : List (LogOf OpenFile)) (left parts : List (List ℕ)) : Type 0 where
   pub each : AllZip IsNameLeft s.slots names
-  pub cuts : AllZip IsLeftOf (those_there names) left
+  pub cuts : AllZip (IsLeftOf (those_there names)) (those_there names) left
   pub of_parts : AreLeftOf s.checkpoints parts
 
 -- a resume was stopped, as often as it was, and left the later bytes and parts

@@ -9,14 +9,14 @@ ghost use Rattle.mt_replay.specs.Survivors.{log_updates};
 ghost use Rattle.mt_replay.specs.Walk.{IsWalk};
 ghost use Rattle.mt_scan.specs.Segments.{IsGap};
 ghost use Rattle.mt_recover.specs.Recovery.{AreReadings, begin_of, survivors, records_of, IsStoreOf};
-ghost use Rattle.mt_writer.specs.Files.{IsCutOf};
+ghost use Rattle.mt_writer.specs.Files.{IsCutFileOf};
 ghost use Rattle.mt_laws.specs.Crashes.{SaysBeginning, IsCrash, AreSyncedBeyond};
 
-/// States that a beginning of a log, if it has the whole header, is a log with the same header, whose records are a
-/// beginning of the log's. This is a law: it has nothing to run.
+/// States that a beginning of a log's text, if it has the whole header, is a log with the same header, whose records are a
+/// beginning of the log's, whatever follows it. This is a law: it has nothing to run.
 pub fn a_cut_log_is_a_log()
     ensures { (left written : List ℕ) (log : LogReading) →
-        IsReading written log → IsCutOf left written → SaysBeginning left log }
+        IsReading written log → IsCutFileOf left written → SaysBeginning left log }
 {}
 
 /// States that if no log that a crash left has a gap, exactly the updates survive that survive of the logs as they were

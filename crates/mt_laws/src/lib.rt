@@ -10,6 +10,7 @@
 
 mod checkpoints;
 mod crashes;
+mod damage;
 mod fresh;
 mod lives;
 mod part_files;
@@ -24,6 +25,7 @@ pub use checkpoints::{
 pub use crashes::{
     a_crash_loses_nothing_below_the_cutoff, a_cut_log_is_a_log, acknowledged_is_safe,
 };
+pub use damage::{a_changed_bit_is_seen, a_changed_part_is_no_part};
 pub use fresh::a_fresh_start_is_the_same_store;
 pub use lives::{a_crash_of_names, a_life_of_crashes, versions_may_be_timestamps};
 pub use part_files::{
@@ -37,4 +39,4 @@ pub use resuming::{
     logs_may_come_in_any_order, resuming_changes_nothing,
 };
 pub use verdicts::some_verdict;
-pub use writing::calls_are_a_life;
+pub use writing::{calls_are_a_life, what_a_crash_leaves};

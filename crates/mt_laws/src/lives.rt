@@ -53,7 +53,7 @@ pub fn a_life_of_crashes()
 pub fn a_crash_of_names()
     ensures crash { (acked : List Update) (before after : List (LogOf OpenFile)) (checkpoints : Checkpoints) (left parts : List (List ℕ)) →
         Life (running acked before checkpoints) → AreNamesLeft (begin_of checkpoints.base) before after →
-        AllZip IsLeftOf (those_there after) left → AreLeftOf checkpoints parts →
+        AllZip (IsLeftOf (those_there after)) (those_there after) left → AreLeftOf checkpoints parts →
         Life (down acked (map as_written after) left parts) }
     ensures deleted { (acked : List Update) (before after : List (LogOf OpenFile)) (checkpoints : Checkpoints) →
         Life (running acked before checkpoints) → AreNamesLeft (begin_of checkpoints.base) before after →

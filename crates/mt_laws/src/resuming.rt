@@ -9,18 +9,20 @@ ghost use Rattle.mt_scan.specs.PartScans.{KnownPart};
 ghost use Rattle.mt_scan.specs.Choice.{CheckpointReading, IsChosenOf};
 ghost use Rattle.mt_replay.specs.Survivors.{log_updates};
 ghost use Rattle.mt_recover.specs.Recovery.{AreReadings, Facts, records_of, IsStoreOf};
-ghost use Rattle.mt_record.specs.Resuming.{greatest_timestamp, is_ended, resumed, IsResumed};
-ghost use Rattle.mt_laws.specs.Resuming.{IsOnTheWay, FindTheSame, AreDeleting, NoneBecomesValid, IsResume, IsContinued, GoesOnFrom};
+ghost use Rattle.mt_record.specs.Resuming.{greatest_timestamp, is_ended, resumed, IsResumed, Replaces};
+ghost use Rattle.mt_laws.specs.Resuming.{IsReplaced, IsOnTheWay, FindTheSame, AreDeleting, NoneBecomesValid, IsResume, IsContinued, GoesOnFrom};
 
 /// States that what replaces a log is a log. Its last timestamp is the cutoff or, if the log was ended, the greatest one:
-/// no log claims more than the cutoff, and an ended log holds back nothing. Replacing it again changes nothing. This is a
-/// law: it has nothing to run.
+/// no log claims more than the cutoff, and an ended log holds back nothing. Replacing it again changes nothing. A file of
+/// any format says what replaces the log of the file that it replaces. This is a law: it has nothing to run.
 pub fn a_resumed_log_is_a_log()
     ensures reading { (before after : List ℕ) (log : LogReading) (cutoff : ℕ) → cutoff < 2 ^ 64 →
         IsReading before log → IsResumed cutoff before after → IsReading after (resumed cutoff log) }
     ensures last { (log : LogReading) (cutoff last : ℕ) → cutoff < 2 ^ 64 → IsLast (resumed cutoff log) last →
         last ≡ (if is_ended log.records then greatest_timestamp else cutoff) }
     ensures again { (log : LogReading) (cutoff : ℕ) → resumed cutoff (resumed cutoff log) ≡ resumed cutoff log }
+    ensures file { (before after : List ℕ) (cutoff salt : ℕ) → cutoff < 2 ^ 64 → Replaces cutoff salt before after →
+        IsReplaced cutoff before after }
 {}
 
 /// States that every state on the way of a resume has the same store, with the same cutoff, chosen checkpoint and
@@ -34,8 +36,8 @@ pub fn resuming_changes_nothing()
         (after : Facts now left) → FindTheSame store.basis.facts after }
     ensures again { (logs parts now left after : List (List ℕ)) (pairs : List Pair) →
         (store : IsStoreOf logs parts pairs) → IsOnTheWay store.basis.facts now left →
-        (found : Facts now left) → AllZip (IsResumed found.cutoff) now after →
-        AllZip (IsResumed store.basis.facts.cutoff) logs after }
+        (found : Facts now left) → AllZip (IsReplaced found.cutoff) now after →
+        AllZip (IsReplaced store.basis.facts.cutoff) logs after }
 {}
 
 /// States that recovery finds the same cutoff and chooses the same checkpoint in whatever order the logs are. This is a
