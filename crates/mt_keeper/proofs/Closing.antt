@@ -223,7 +223,7 @@ one_failed before failed lents lent is = ap (λ (b : Bool). b || lent.failed) is
 -- ---- all deeds have one order
 
 no_writer : Writer
-no_writer = record { buffer = []; last = 0; taken = 0; reach = 0; size = 0; taken_size = 0; synced_size = 0; segment = None; failed = false }
+no_writer = record { mark = None; buffer = []; last = 0; taken = 0; reach = 0; size = 0; taken_size = 0; synced_size = 0; frames = 0; segment = None; failed = false }
 
 -- how the logs began
 abbrev starts : (before : Keeping) (lents : List LentView) (deeds : List (List Deed)) → AllZip (HasDone before) lents deeds → ℕ → Held

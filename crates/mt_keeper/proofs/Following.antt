@@ -11,6 +11,8 @@ use Rattle.std.proofs.lemmas.List.Elements.{Contains-append_left, Contains-push,
 use Rattle.std.proofs.lemmas.Slice.Zip.{all_zipped_more}
 use Rattle.mt_record.specs.declared.feed.head.Segment.{Segment}
 use Rattle.mt_record.specs.declared.feed.head.Head.{Head}
+use Rattle.mt_block.specs.Blocks.{mark_of as mark_in}
+use Rattle.mt_record.specs.Opening.{text_head}
 use Rattle.mt_record.specs.Encoding.{segment_head}
 use Rattle.mt_scan.specs.Segments.{IsEarlier}
 use Rattle.mt_replay.proofs.Members.{of_map, in_map}
@@ -120,21 +122,23 @@ followed_in_place workers front back log after next segment are of_log of_after 
 -- the writer of a new file
 abbrev pub writer_of : NewFile → Writer
 writer_of new = record {
+  mark = Some (mark_in new.header);
   buffer = [];
   last = new.mark;
   taken = new.mark;
   reach = new.mark;
-  size = length new.bytes;
-  taken_size = length new.bytes;
-  synced_size = length new.bytes;
-  segment = new.segment;
+  size = 37;
+  taken_size = 37;
+  synced_size = 37;
+  frames = 40;
+  segment = (text_head new.header).segment;
   failed = false;
 }
 
 -- The log is sealed, and the next segment begins.
-pub followed_by : (keeper : Keeping) (s : Server) (number : ℕ) (log after next : Log) → Stands s → Holds keeper s → slice_get keeper.logs number ≡ Some log → IsFollowedBy log after next
-    → StepsToNext s number (record keeper { logs = slice_set keeper.logs number after ++ next ∷ [] })
-followed_by keeper s number log after next stands holds at by = record {
+pub followed_by : (keeper : Keeping) (s : Server) (number salt : ℕ) (log after next : Log) → Stands s → Holds keeper s → slice_get keeper.logs number ≡ Some log → IsFollowedBy log after next
+    → StepsToNext s number (record keeper { logs = slice_set keeper.logs number after ++ next ∷ []; salt = salt })
+followed_by keeper s number salt log after next stands holds at by = record {
   j = j;
   last = last;
   worker = by.segment.worker;

@@ -1,6 +1,7 @@
 pub mod OneChanged
 pub mod Writes
 pub mod Refused
+pub mod Files
 pub mod Following
 pub mod Reaching
 pub mod Least

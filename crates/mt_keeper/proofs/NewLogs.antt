@@ -23,6 +23,7 @@ use Rattle.mt_keeper.specs.declared.keeper.Stage.TheVariants.{Coming, Writing}
 use Rattle.mt_keeper.specs.declared.keeper.Log.{Log}
 use Rattle.mt_keeper.specs.Keeping.{Keeping, Holds, numbered, IsInStage, IsLogOf, segment_in, from_in, latest_in, is_newest, Place, place_of, AreInPlace}
 use Rattle.mt_keeper.specs.Calling.{Steps, acknowledged, with_new_log, with_changed, place_at, with_created, if_coming, first}
+use Rattle.mt_keeper.specs.Filing.{next_salt, BeginsFile}
 use Rattle.mt_keeper.specs.Refusals.{IsNotComing}
 use Rattle.mt_keeper.specs.declared.keeper_fault.KeeperFault.TheVariants as faults
 use Rattle.mt_keeper.proofs.Refused.{not_in}
@@ -87,9 +88,9 @@ same_length R [] (x ∷ xs) are = absurd are
 same_length R (l ∷ ls) [] are = absurd are
 same_length R (l ∷ ls) (x ∷ xs) are = ap suc (same_length R ls xs are.1)
 
-pub begins_log : (keeper : Keeping) (s : Server) (new : NewFile) → Holds keeper s → Begins new (segment_head 0 keeper.workers 0) → new.mark ≡ keeper.clock + 1
-    → (length keeper.logs ≡ length (numbered s)) × Steps s (with_new_log s keeper.workers) (record keeper { logs = keeper.logs ++ new_log keeper.workers new ∷ []; workers = keeper.workers + 1 })
-begins_log keeper s new holds begins at = (
+pub begins_log : (keeper : Keeping) (s : Server) (new : NewFile) (salt : ℕ) → Holds keeper s → Begins new (segment_head 0 keeper.workers 0) → new.mark ≡ keeper.clock + 1
+    → (length keeper.logs ≡ length (numbered s)) × Steps s (with_new_log s keeper.workers) (record keeper { logs = keeper.logs ++ new_log keeper.workers new ∷ []; workers = keeper.workers + 1; salt = salt })
+begins_log keeper s new salt holds begins at = (
   same_length (IsLogOf keeper.clock) keeper.logs (numbered s) holds.logs,
   (
     subst (λ (mark : ℕ). IsCall s (with_more s (coming (begun head mark)))) is
@@ -168,11 +169,11 @@ first_called new begins at =
     subst (λ (mark : ℕ). Called (record { clock = mark; acked = []; slots = writing (begun (segment_head 0 0 0) mark) ∷ []; places = 0 ∷ []; checkpoints = only None })) at
     (new_server (writer_of new) new (segment_head 0 0 0) (begun_keeps new (writer_of new) (segment_head 0 0 0) begins refl) refl)
 
-pub first_holds : (new : NewFile) (w : Writer) (logs : List Log) → Begins new (segment_head 0 0 0) → new.mark ≡ 1 → ((head : Head) → Begins new head → Keeps w (begun head new.mark))
+pub first_holds : (new : NewFile) (w : Writer) (logs : List Log) (salt : ℕ) → Begins new (segment_head 0 0 0) → new.mark ≡ 1 → ((head : Head) → Begins new head → Keeps w (begun head new.mark))
     → w.failed ≡ false → logs ≡ first_log w ∷ []
-    → Holds (record { clock = 1; logs = logs; workers = 1; base = 0; making = None; next = 1; failed = false }) first
-first_holds new w logs begins at keeps failed is =
-    subst (λ (ls : List Log). Holds (record { clock = 1; logs = ls; workers = 1; base = 0; making = None; next = 1; failed = false }) first) (sym is) (record {
+    → Holds (record { clock = 1; logs = logs; workers = 1; base = 0; making = None; next = 1; salt = salt; failed = false }) first
+first_holds new w logs salt begins at keeps failed is =
+    subst (λ (ls : List Log). Holds (record { clock = 1; logs = ls; workers = 1; base = 0; making = None; next = 1; salt = salt; failed = false }) first) (sym is) (record {
       clock = refl;
       acked = λ u stands. absurd (no_element u stands);
       base = tt;
@@ -226,3 +227,20 @@ pub not_coming : (inside keeper : Keeping) (number : ℕ) (x : Log) → inside �
     → IsNotComing keeper number faults.Log
 not_coming inside keeper number x is stands not =
     subst (λ (k : Keeping). IsNotComing k number faults.Log) is (refl, λ new at. not_in inside number x (Coming new) stands (not new) at)
+
+-- ---- a file that is to be created
+
+last_log : (logs : List Log) (log : Log) → slice_get (logs ++ log ∷ []) (length logs) ≡ Some log
+last_log [] log = refl
+last_log (x ∷ logs) log = last_log logs log
+
+-- the log that was added last is to be created
+pub begins_last : (before after : Keeping) (number : ℕ) (logs : List Log) (log : Log) (new : NewFile) → after.logs ≡ logs ++ log ∷ [] → number ≡ length logs → log.stage ≡ Coming new
+    → new.header.salt ≡ before.salt → new.header.workers ≡ after.workers → after.salt ≡ next_salt before.salt → BeginsFile before after number
+begins_last before after number logs log new all at is salt workers next = record {
+  new = new;
+  stands = record { log = log; stands = (λ i. slice_get (all i) (at i)) ∙ last_log logs log; is = is };
+  salt = salt;
+  workers = workers;
+  next = next;
+}

@@ -1,5 +1,5 @@
 -- A restart from the files that a crash left holds a server of the law.
-use Rattle.std.proofs.Common.{◌≡◌, ◌⊎◌, inl, inr, ℕ, zero, suc, ◌-◌, ◌^◌, ◌≤◌, ◌<◌, Bool, true, false, Option, None, Some, IfSome, List, [], ◌∷◌, ◌++◌, length, map, Contains, refl, sym, ap, ◌∙◌, subst, append_assoc, arith}
+use Rattle.std.proofs.Common.{◌≡◌, ◌⊎◌, inl, inr, ℕ, zero, suc, ◌-◌, ◌^◌, ◌≤◌, ◌<◌, Bool, true, false, Option, None, Some, IfSome, List, [], ◌∷◌, ◌++◌, length, flat_map, map, Contains, refl, sym, ap, ◌∙◌, subst, append_assoc, arith}
 use Rattle.std.specs.Prelude.{nat_eq}
 use Rattle.std.specs.List.{AllZip, IsDistinct}
 use Rattle.std.specs.List.Sorted.{IsPermutation, apply_swaps}
@@ -10,8 +10,8 @@ use Rattle.std.proofs.lemmas.Slice.Zip.{AllZip-long}
 use Rattle.mt_words.specs.Changes.{Logged}
 use Rattle.mt_words.proofs.Elements.{no_element, head_or_tail, head_in, tail_in}
 use Rattle.mt_record.specs.declared.feed.head.Segment.{Segment}
-use Rattle.mt_record.specs.Logs.{IsReading, log_bytes}
-use Rattle.mt_record.specs.Resuming.{IsResumed, resumed}
+use Rattle.mt_record.specs.Logs.{log_bytes}
+use Rattle.mt_record.specs.Resuming.{resumed}
 use Rattle.mt_record.proofs.OneReading.{one_reading_of}
 use Rattle.mt_scan.specs.Segments.{IsEarlier}
 use Rattle.mt_scan.specs.Choice.{CheckpointReading}
@@ -24,7 +24,12 @@ use Rattle.mt_laws.specs.Resuming.{IsSameOrResumed}
 use Rattle.mt_laws.specs.Writing.{Slot, coming, writing, going, gone, log_of, logs_of, files_of, IsNewest, Server, Stands, AreStops, none, more, AreResumed, Called, restarted}
 use Rattle.mt_laws.proofs.Orders.{swaps_of, zip_swaps, map_swaps}
 use Rattle.mt_laws.proofs.Paired.{partner_of}
-use Rattle.mt_laws.proofs.Resumed.{reading_after}
+use Rattle.mt_record.specs.Opening.{Opens}
+use Rattle.mt_record.specs.Spelling.{spelling}
+use Rattle.mt_writer.specs.Files.{HasHeader}
+use Rattle.mt_writer.proofs.FileLemmas.{file_opens}
+use Rattle.mt_laws.proofs.CutLogs.{file_says, text_says}
+use Rattle.mt_laws.specs.Resuming.{IsReplaced}
 use Rattle.mt_laws.proofs.ResumedStores.{cutoff_fits}
 use Rattle.mt_laws.proofs.ServerCrashes.{stands_of}
 use Rattle.mt_keeper.specs.declared.keeper.Log.{Log}
@@ -74,21 +79,24 @@ record AreBack (clock cutoff : ℕ) (now : List (List ℕ)) (logs : List Log) : 
   of : AllZip (IsOf clock) logs js
   resumed : AllZip (IsResumedAs cutoff) now (map file_of js)
 
-one_back : (clock cutoff : ℕ) (left bytes : List ℕ) (log : Log) → cutoff < 2 ^ 64 → IsResumed cutoff left bytes → (is : IsBack clock bytes log)
+one_back : (clock cutoff : ℕ) (left bytes : List ℕ) (log : Log) → cutoff < 2 ^ 64 → IsReplaced cutoff left bytes → (is : IsBack clock bytes log)
     → IsResumedAs cutoff left (file_of (read_back is.head is.records))
 one_back clock cutoff left bytes log fits to is =
     let j = read_back is.head is.records in
     let w = writer_in log.stage j is.kept.stage in
     let all : records_of j ≡ is.records = append-nil (is.records ++ []) ∙ append-nil is.records in
-    let same : bytes ≡ file_bytes (file_of j) = is.spelled ∙ ap (log_bytes is.head) (sym all) in record {
+    let said = (opens w.0 j w.2).is_reading in
+    let text = file_bytes (file_of j) in
+    let opens_text : Opens bytes text false = subst (λ (rs : List Logged). Opens bytes (log_bytes is.head rs) false) (sym (append-nil (is.records ++ []))) (file_opens is.writer.mark is.head (is.records ++ []) bytes is.is_file.is_file) in
+    let header : HasHeader text = record { head = is.head; is_head = said.is_log.is_head; more = flat_map spelling (records_of j); spelled = refl } in
+    let reading = file_says bytes text false (file_reading (file_of j)) opens_text (text_says text (file_reading (file_of j)) header said) in record {
       reading = to.log;
       is_reading = to.is_reading;
-      replaces = one_reading_of bytes (file_reading (file_of j)) (resumed cutoff to.log) (subst (λ (b : List ℕ). IsReading b (file_reading (file_of j))) (sym same) (opens w.0 j w.2).is_reading)
-          (reading_after cutoff left bytes to.log fits to.is_reading to);
+      replaces = one_reading_of bytes (file_reading (file_of j)) (resumed cutoff to.log) reading to.says;
       synced = ap (log_bytes is.head) (sym all);
     }
 
-are_back : (clock cutoff : ℕ) (now files : List (List ℕ)) (logs : List Log) → cutoff < 2 ^ 64 → AllZip (IsResumed cutoff) now files → AllZip (IsBack clock) files logs
+are_back : (clock cutoff : ℕ) (now files : List (List ℕ)) (logs : List Log) → cutoff < 2 ^ 64 → AllZip (IsReplaced cutoff) now files → AllZip (IsBack clock) files logs
     → AreBack clock cutoff now logs
 are_back clock cutoff [] [] [] fits to are = record { js = []; of = tt; resumed = tt }
 are_back clock cutoff [] [] (l ∷ ls) fits to are = absurd are
@@ -214,11 +222,11 @@ are_still segments (there file ∷ names) (j ∷ js) have = (
 are_still segments (deleted rs ∷ names) js have = (refl, are_still segments names js have)
 
 -- as many files were left as are there now
-have_left : (files : List OpenFile) (left : List (List ℕ)) → AllZip IsLeftOf files left → AllZip (λ file bytes. Unit {0}) files left
-have_left [] [] are = tt
-have_left [] (b ∷ bs) are = absurd are
-have_left (f ∷ fs) [] are = absurd are
-have_left (f ∷ fs) (b ∷ bs) are = (tt, have_left fs bs are.1)
+have_left : (all files : List OpenFile) (left : List (List ℕ)) → AllZip (IsLeftOf all) files left → AllZip (λ file bytes. Unit {0}) files left
+have_left all [] [] are = tt
+have_left all [] (b ∷ bs) are = absurd are
+have_left all (f ∷ fs) [] are = absurd are
+have_left all (f ∷ fs) (b ∷ bs) are = (tt, have_left all fs bs are.1)
 
 still_many : (files : List OpenFile) (cutoff : ℕ) (before after : List (List ℕ)) → AllZip (λ file bytes. Unit {0}) files before → AllZip (IsSameOrResumed cutoff) before after
     → AllZip (λ file bytes. Unit {0}) files after
@@ -265,10 +273,10 @@ in_segments clock logs js are j at =
 
 -- ---- a restart
 
-pub restarts : (s : Server) (cutoff begin number : ℕ) (files : List (List ℕ)) (keeper : Keeping) → Called s → (of : AreFilesAfter s cutoff begin files)
-    → AreAdded (without_logs cutoff begin number) files keeper
+pub restarts : (s : Server) (cutoff begin number salt : ℕ) (files : List (List ℕ)) (keeper : Keeping) → Called s → (of : AreFilesAfter s cutoff begin files)
+    → AreAdded (without_logs cutoff begin number salt) files keeper
     → Restarts s cutoff begin files of (record keeper { logs = map (among (segments_of keeper.logs)) keeper.logs })
-restarts s cutoff begin number files keeper so_far of added = record {
+restarts s cutoff begin number salt files keeper so_far of added = record {
   slots = slots;
   places = places;
   resumed = resumed_are;
@@ -286,8 +294,8 @@ restarts s cutoff begin number files keeper so_far of added = record {
   });
 }
   where
-    all : Gathered (without_logs cutoff begin number) files keeper
-    all = gathered (without_logs cutoff begin number) files keeper added
+    all : Gathered (without_logs cutoff begin number salt) files keeper
+    all = gathered (without_logs cutoff begin number salt) files keeper added
 
     fits : cutoff < 2 ^ 64
     fits = subst (λ (c : ℕ). c < 2 ^ 64) of.at (cutoff_fits of.now of.facts.readings of.facts.cutoff of.facts.read of.facts.is_cutoff)
@@ -335,7 +343,7 @@ restarts s cutoff begin number files keeper so_far of added = record {
 
     have : HaveJournals (those_there of.names) back.js
     have = have_journals (those_there of.names) cutoff of.now back.js
-        (many_stopped (those_there of.names) of.left of.parts of.now of.now_parts of.stops (have_left (those_there of.names) of.left of.crash.cuts)) back.resumed
+        (many_stopped (those_there of.names) of.left of.parts of.now of.now_parts of.stops (have_left (those_there of.names) (those_there of.names) of.left of.crash.cuts)) back.resumed
 
     are_in_places : map (slot_in slots) (places_of of.names) ≡ map (slot_among segments) back.js
     are_in_places = in_places segments of.names back.js have

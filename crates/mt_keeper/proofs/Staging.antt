@@ -12,11 +12,11 @@ use Rattle.mt_words.specs.declared.update.Update.{Update}
 use Rattle.mt_record.specs.declared.feed.head.Segment.{Segment}
 use Rattle.mt_record.specs.declared.front.LogFront.{LogFront}
 use Rattle.mt_record.specs.Logs.{latest, log_bytes}
-use Rattle.mt_record.specs.LogFronts.{IsTextFrontOf}
+use Rattle.mt_record.specs.LogFronts.{IsFrontOf}
 use Rattle.mt_scan.specs.Segments.{IsEarlier, is_earlier}
 use Rattle.mt_recover.specs.Recovery.{begin_of}
 use Rattle.mt_replay.proofs.Members.{of_map, in_map}
-use Rattle.mt_writer.specs.Journals.{Journal, Writer, Keeps, records_of, read_back, IsSealed}
+use Rattle.mt_writer.specs.Journals.{Journal, Writer, Keeps, IsFileOf, records_of, read_back, IsSealed}
 use Rattle.mt_writer.proofs.JournalLemmas.{reached, times_below}
 use Rattle.mt_laws.specs.Writing.{Slot, writing, sealed, Server}
 use Rattle.mt_laws.proofs.Successors.{earlier_too, not_earlier}
@@ -326,15 +326,17 @@ settled_kept logs now after n x are lt is lacks same =
 
 -- ---- a log that is added
 
-pub is_back : (clock : ℕ) (bytes : List ℕ) (front : LogFront) (records : List Logged) (w : Writer) → IsTextFrontOf bytes records front → front.latest ≤ clock + 1
-    → Keeps w (read_back front.head records) × (bytes ≡ log_bytes front.head records) → w.failed ≡ false
+pub is_back : (clock : ℕ) (bytes : List ℕ) (front : LogFront) (records : List Logged) (w : Writer) → IsFrontOf bytes records front → front.latest ≤ clock + 1
+    → Keeps w (read_back front.head records) × IsFileOf w (read_back front.head records) bytes → w.failed ≡ false
     → IsBack clock bytes (record { segment = front.head.segment; from = front.head.from; stage = Writing w })
 is_back clock bytes front records w is low keeps failed =
     let all : records_of (read_back front.head records) ≡ records = append-nil (records ++ []) ∙ append-nil records in
     let last : front.latest ≡ latest 0 records = ap (λ (f : LogFront). f.latest) is.numbers in record {
       head = front.head;
       records = records;
-      spelled = keeps.1;
+      writer = w;
+      written = refl;
+      is_file = keeps.1;
       kept = record {
         stage = (keeps.0, failed);
         segment = refl;

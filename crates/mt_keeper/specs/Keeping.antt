@@ -29,6 +29,8 @@ pub record Keeping : Type 0 where
   pub making : Option Making
   -- the number of the next checkpoint
   pub next : ℕ
+  -- the salt of the next file
+  pub salt : ℕ
   -- whether a write or a sync failed
   pub failed : Bool
 

@@ -1,5 +1,5 @@
 -- When a keeper refuses a call.
-use Rattle.std.specs.Prelude.{◌≡◌, ℕ, suc, ◌+◌, ◌≤◌, ◌⊎◌, ◌^◌, ◌%◌, ◌++◌, Option, Some, None, [], ◌∷◌, false, IsSome, IsTrue, slice_get}
+use Rattle.std.specs.Prelude.{◌≡◌, ℕ, suc, ◌+◌, ◌≤◌, ◌⊎◌, ◌^◌, ◌%◌, ◌++◌, Option, Some, None, [], ◌∷◌, ◌<◌, false, length, IsSome, IsTrue, slice_get}
 use Rattle.mt_words.specs.declared.record.Change.{Change}
 use Rattle.mt_shared.specs.declared.known.Act.{Act}
 use Rattle.mt_shared.specs.Words.{act}
@@ -15,6 +15,7 @@ use Rattle.mt_keeper.specs.declared.keeper.Stage.TheVariants.{Coming, Writing, G
 use Rattle.mt_keeper.specs.declared.keeper.Log.{Log}
 use Rattle.mt_keeper.specs.Keeping.{Keeping, numbered, IsReading, HasRead, ArePast}
 use Rattle.mt_keeper.specs.Crews.{LentView}
+use Rattle.mt_keeper.specs.declared.crew.TheConstants.{MOST_LOGS, LATEST_LENT}
 use Rattle.mt_keeper.specs.declared.keeper_fault.KeeperFault.{KeeperFault}
 use Rattle.mt_keeper.specs.declared.keeper_fault.KeeperFault.TheVariants as faults
 
@@ -105,6 +106,11 @@ abbrev pub MayNotStand : Keeping → KeeperFault → Type 0
 MayNotStand keeper fault = (fault ≡ faults.Early) × ((begin end : ℕ) → HasRead keeper.making begin end → ArePast end keeper.logs → ⊥)
 
 -- ---- lent logs
+
+-- why a keeper lends no logs: the last stamp is too late, or there are too many logs, or there is no memory
+abbrev pub LendsNone : Keeping → KeeperFault → Type 0
+LendsNone keeper fault = HasFailed keeper fault ⊎ ((fault ≡ faults.Writer Ended) × (LATEST_LENT ≤ keeper.clock)
+    ⊎ ((fault ≡ faults.Writer Full) × (MOST_LOGS < length keeper.logs) ⊎ (fault ≡ faults.Writer Memory)))
 
 -- a write or a sync of the log failed before
 abbrev pub LentHasFailed : LentView → KeeperFault → Type 0

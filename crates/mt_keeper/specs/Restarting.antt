@@ -1,5 +1,5 @@
 -- A keeper that goes on with the logs that a crash left.
-use Rattle.std.specs.Prelude.{◌≡◌, ℕ, ◌+◌, ◌-◌, ◌≤◌, ◌<◌, ◌⊎◌, ◌^◌, [], ◌∷◌, ◌++◌, min, max, Bool, false, Option, Some, None, IsSomeAnd, if◌then◌else◌, List, map}
+use Rattle.std.specs.Prelude.{◌≡◌, ℕ, ◌+◌, ◌-◌, ◌≤◌, ◌<◌, ◌⊎◌, ◌^◌, [], ◌∷◌, ◌++◌, min, max, Bool, false, Option, Some, None, IsSomeAnd, if◌then◌else◌, List, length, map}
 use Rattle.std.specs.List.{Any, AllZip, list_any}
 use Rattle.std.specs.List.Sorted.{IsPermutation}
 use Rattle.mt_words.specs.Changes.{Logged}
@@ -7,19 +7,19 @@ use Rattle.mt_record.specs.declared.feed.head.Segment.{Segment}
 use Rattle.mt_record.specs.declared.feed.head.Head.{Head}
 use Rattle.mt_record.specs.declared.front.LogFront.{LogFront}
 use Rattle.mt_record.specs.declared.read.FeedFault.{FeedFault}
-use Rattle.mt_record.specs.Logs.{log_bytes}
-use Rattle.mt_record.specs.LogFronts.{IsTextFrontOf}
-use Rattle.mt_record.specs.LogFaults.{IsTextFault}
-use Rattle.mt_record.specs.Resuming.{greatest_timestamp, IsResumed}
+use Rattle.mt_record.specs.LogFronts.{IsFrontOf}
+use Rattle.mt_record.specs.LogFaults.{IsLogFault}
+use Rattle.mt_record.specs.Resuming.{greatest_timestamp}
 use Rattle.mt_scan.specs.Choice.{CheckpointReading}
 use Rattle.mt_scan.specs.Segments.{IsSame, is_earlier}
 use Rattle.mt_recover.specs.Recovery.{Facts, begin_of}
 use Rattle.mt_writer.specs.Files.{OpenFile}
-use Rattle.mt_writer.specs.Journals.{read_back, MayGoOn}
+use Rattle.mt_writer.specs.Journals.{Writer, IsFileOf, read_back, MayGoOn}
 use Rattle.mt_writer.specs.declared.writer_fault.WriterFault.TheVariants.{Full, Memory}
+use Rattle.mt_laws.specs.Resuming.{IsReplaced}
 use Rattle.mt_laws.specs.Lives.{LogOf, only}
 use Rattle.mt_laws.specs.Writing.{Slot, writing, Server, IsCrashOf, AreStops, AreResumed, Called}
-use Rattle.mt_keeper.specs.declared.keeper.Stage.TheVariants.{Followed}
+use Rattle.mt_keeper.specs.declared.keeper.Stage.TheVariants.{Writing, Followed}
 use Rattle.mt_keeper.specs.declared.keeper.Log.{Log}
 use Rattle.mt_keeper.specs.declared.keeper_fault.KeeperFault.{KeeperFault}
 use Rattle.mt_keeper.specs.declared.keeper_fault.KeeperFault.TheVariants as faults
@@ -28,28 +28,31 @@ use Rattle.mt_keeper.specs.Keeping.{Keeping, Holds, IsLogOf, latest_in}
 -- ---- the files that are added
 
 -- the keeper before a log is added
-abbrev pub without_logs : (cutoff begin number : ℕ) → Keeping
-without_logs cutoff begin number = record {
+abbrev pub without_logs : (cutoff begin number salt : ℕ) → Keeping
+without_logs cutoff begin number salt = record {
   clock = cutoff - 1;
   logs = [];
   workers = 0;
   base = begin;
   making = None;
   next = min (number + 1) (2 ^ 32 - 1);
+  salt = salt;
   failed = false;
 }
 
 -- a writer may go on with the log, which has no timestamp above the next stamp, and is not ended
-pub record GoesOn (clock : ℕ) (front : LogFront) : Type 0 where
-  pub may : MayGoOn front
+pub record GoesOn (clock size : ℕ) (front : LogFront) : Type 0 where
+  pub may : MayGoOn front size
   pub latest : front.latest ≤ clock + 1
   pub not_ended : front.latest < greatest_timestamp
 
--- the log is that of these bytes, all of which are synced, and may be written
+-- the log is that of these bytes, all of which are synced, and may be written: what its writer hands out may be appended to them
 pub record IsBack (clock : ℕ) (bytes : List ℕ) (log : Log) : Type 0 where
   pub head : Head
   pub records : List Logged
-  pub spelled : bytes ≡ log_bytes head records
+  pub writer : Writer
+  pub written : log.stage ≡ Writing writer
+  pub is_file : IsFileOf writer (read_back head records) bytes
   pub kept : IsLogOf clock log (writing (read_back head records))
 
 -- one of the logs is this segment
@@ -73,10 +76,10 @@ abbrev pub AreAdded : Keeping → List (List ℕ) → Keeping → Type 0
 AreAdded before [] after = after ≡ before
 AreAdded before (bytes ∷ files) after = (next : Keeping) × IsAdded before bytes next × AreAdded next files after
 
--- the bytes are no log of formats 1 to 3 that goes on
+-- the bytes are no log that goes on
 abbrev pub IsNoLog : ℕ → List ℕ → Type 0
-IsNoLog clock bytes = ((what : FeedFault) × IsTextFault bytes what)
-    ⊎ ((front : LogFront) × (records : List Logged) × IsTextFrontOf bytes records front × (GoesOn clock front → ⊥))
+IsNoLog clock bytes = ((what : FeedFault) × IsLogFault bytes what)
+    ⊎ ((front : LogFront) × (records : List Logged) × IsFrontOf bytes records front × (GoesOn clock (length bytes) front → ⊥))
 
 -- The log is not added: the bytes are no log that goes on, or a segment that was added; or no number is left for another worker, or there is no memory.
 abbrev pub AddsNone : Keeping → List ℕ → KeeperFault → Type 0
@@ -111,7 +114,7 @@ pub record AreFilesAfter (s : Server) (cutoff begin : ℕ) (files : List (List �
   pub at : facts.cutoff ≡ cutoff
   pub over : begin_of facts.chosen ≡ begin
   pub replaced : List (List ℕ)
-  pub resumed : AllZip (IsResumed cutoff) now replaced
+  pub resumed : AllZip (IsReplaced cutoff) now replaced
   pub in_any_order : IsPermutation replaced files
 
 -- the server that goes on with these slots, and with numbers for these places

@@ -1,15 +1,19 @@
 //! Begins the logs of new workers.
 ghost use Rattle.std.specs.Prelude.{◌≡◌, ◌⊎◌, ◌∷◌, ◌++◌, [], true, Some, Err, length, IfOk, IfErr, OnOk, OnErr};
+ghost use Rattle.mt_record.specs.declared.feed.head.Head.{Head as HeadValue};
+ghost use Rattle.mt_writer.specs.Journals.{NewFile, Begins, begun};
 ghost use Rattle.mt_writer.specs.declared.writer_fault.WriterFault.TheVariants.{Failed};
 ghost use Rattle.mt_laws.specs.Writing.{Server};
 ghost use Rattle.mt_keeper.specs.Keeping.{Holds, numbered};
 ghost use Rattle.mt_keeper.specs.Calling.{Steps, with_new_log, with_created};
+ghost use Rattle.mt_keeper.specs.Filing.{BeginsFile, HasFile};
 ghost use Rattle.mt_keeper.specs.declared.keeper.Stage.TheVariants.{Coming};
-ghost use Rattle.mt_keeper.specs.Refusals.{HasFailed, IsNotComing, BeginsNone};
+ghost use Rattle.mt_keeper.specs.Refusals.{IsAt, HasFailed, IsNotComing, BeginsNone};
 ghost use Rattle.mt_keeper.specs.declared.keeper_fault.KeeperFault.TheVariants as faults;
 
 use crate::keeper::{Keeper, Log, Stage};
 use crate::keeper_fault::KeeperFault;
+use mt_block::Header;
 use mt_record::Segment;
 use mt_words::Memory;
 use mt_writer::{NewLog, WriterFault};
@@ -21,6 +25,7 @@ impl Keeper {
     /// (`bytes`). From now on acknowledgements wait for this log. Err: no log is begun.
     pub fn begin_log(&mut self, alloc: Global) -> Result<usize, KeeperFault>
         ensures step { (s : Server) → Holds self.old s → IfOk result (λ log. (log ≡ length (numbered s)) × Steps s (with_new_log s self.old.workers) self.new) }
+        ensures file { IfOk result (BeginsFile self.old self.new) }
         ensures err { OnErr result (self.new ≡ self.old) }
         ensures failed { self.old.failed ≡ true → result ≡ Err (faults.Writer Failed) }
         ensures fault { IfErr result (BeginsNone self.old) }
@@ -30,16 +35,25 @@ impl Keeper {
         let Some(workers) = worker.checked_add(1) else {
             return Err(WriterFault::Full.into());
         };
-        let new = NewLog::segment(alloc, 0, worker, 0, mark)?;
+        let header = Header {
+            salt: self.salt,
+            worker,
+            segment: 0,
+            workers,
+            from: 0,
+        };
+        let new = NewLog::begin(alloc, header, mark)?;
         let log = self.logs.len();
         self.add(Segment { worker, number: 0 }, new)?;
         self.workers = workers;
+        self.salt = self.salt.wrapping_add(1);
         Ok(log)
     }
 
     /// Notes that the file has its name, and that the folder is synced. From now on it may be written.
     pub fn created(&mut self, log: usize) -> Result<(), KeeperFault>
         ensures step { (s : Server) → Holds self.old s → OnOk result (Steps s (with_created s log) self.new) }
+        ensures file { (new : NewFile) (head : HeadValue) → IsAt self.old log (Coming new) → Begins new head → OnOk result (HasFile self.new log (begun head new.mark) new.bytes) }
         ensures err { OnErr result (self.new ≡ self.old) }
         ensures failed { self.old.failed ≡ true → result ≡ Err (faults.Writer Failed) }
         ensures fault { IfErr result (λ fault. HasFailed self.old fault ⊎ IsNotComing self.old log fault) }

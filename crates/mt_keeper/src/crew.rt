@@ -7,6 +7,7 @@ ghost use Rattle.std.specs.Prelude.{IsTrue, ◌||◌, vec_len, vec_capacity};
 ghost use Rattle.mt_shared.specs.Words.{fresh_hands};
 ghost use Rattle.mt_keeper.specs.Crews.{LentView, Deed, HasDone, HaveOneOrder, have_failed, written_from, words_of};
 ghost use Rattle.mt_keeper.specs.Lending.{AreLent, IsDealt, IsFresh, MayLend};
+ghost use Rattle.mt_keeper.specs.Refusals.{LendsNone};
 
 use crate::keeper::{Keeper, Log, Stage};
 use crate::keeper_fault::KeeperFault;
@@ -64,6 +65,7 @@ impl Keeper {
         ensures logs { IfOk result (λ lent. map (λ (l : LentView). l.number) lent.1.items ≡ written_from 0 self.logs) }
         ensures fresh { IfOk result (λ lent. All (λ l. (l.table ≡ lent.0.table) × HasDone self l []) lent.1.items) }
         ensures err { IfErr result (λ err. err.1 ≡ self) }
+        ensures fault { IfErr result (λ err. LendsNone self err.0) }
     {
         if self.failed {
             return Err((WriterFault::Failed.into(), self));

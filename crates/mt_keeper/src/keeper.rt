@@ -58,6 +58,8 @@ pub struct Keeper {
     pub(crate) making: Option<Making>,
     /// The number of the next checkpoint.
     pub(crate) next: u32,
+    /// The salt of the next file.
+    pub(crate) salt: u64,
     /// Whether a write or a sync failed.
     pub(crate) failed: bool,
 }
@@ -74,6 +76,7 @@ impl Model for Keeper {
       base = k.base;
       making = k.making;
       next = k.next;
+      salt = k.salt;
       failed = k.failed;
     } };
 }

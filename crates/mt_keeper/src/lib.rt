@@ -5,7 +5,7 @@
 //! (`calls_are_a_life` of `mt_laws`).
 //!
 //! ```
-//! let first = First::begin(alloc)?;
+//! let first = First::begin(alloc, salt)?;
 //! // Write first.bytes() to a file under another name, sync it, rename it, and sync the folder.
 //! let mut keeper = first.created();
 //! let stamp = keeper.put(0, key, columns)?;

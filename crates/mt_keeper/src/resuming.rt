@@ -2,6 +2,7 @@
 ghost use Rattle.std.specs.Prelude.{◌≡◌, ◌⊎◌, ◌+◌, ◌^◌, ◌↔◌, ℕ, List, length, map, IsTrue, IsSomeAnd, IfOk, IfErr, OnErr};
 ghost use Rattle.std.specs.List.{list_any};
 ghost use Rattle.mt_scan.specs.Segments.{is_earlier as is_earlier_in};
+ghost use Rattle.mt_writer.specs.Framing.{HasMark};
 ghost use Rattle.mt_writer.specs.declared.writer_fault.WriterFault.TheVariants.{Full, Memory as MemoryFault};
 ghost use Rattle.mt_laws.specs.Writing.{Server, Called};
 ghost use Rattle.mt_keeper.specs.Keeping.{latest_in};
@@ -10,7 +11,8 @@ ghost use Rattle.mt_keeper.specs.declared.keeper_fault.KeeperFault.TheVariants a
 
 use crate::keeper::{Keeper, Log, Stage};
 use crate::keeper_fault::KeeperFault;
-use mt_record::{FeedFault, Segment, cut_log};
+use mt_block::header_at;
+use mt_record::{FeedFault, Segment, log_front};
 use mt_scan::{is_earlier, is_same};
 use mt_writer::{LogWriter, WriterFault};
 use std::alloc::Global;
@@ -35,8 +37,9 @@ impl Model for Restart {
 impl Restart {
     /// Begins without a log. `cutoff` is that of the recovery: the next stamp is the cutoff, or 1 if that is 0. `begin` is
     /// that of the checkpoint that recovery chose, or 0. `number` is the greatest number of a part in the folder, or 0.
-    pub fn new(alloc: Global, cutoff: u64, begin: u64, number: u32) -> Restart
-        ensures { result ≡ without_logs cutoff begin number }
+    /// `salt` is a random number.
+    pub fn new(alloc: Global, cutoff: u64, begin: u64, number: u32, salt: u64) -> Restart
+        ensures { result ≡ without_logs cutoff begin number salt }
     {
         Restart {
             keeper: Keeper {
@@ -46,6 +49,7 @@ impl Restart {
                 base: begin,
                 making: None,
                 next: number.saturating_add(1),
+                salt,
                 failed: false,
             },
         }
@@ -78,8 +82,8 @@ impl Restart {
     /// written, and so may each log that is no segment.
     pub fn done(self) -> Keeper
         ensures value { result ≡ record self { logs = map (among (segments_of self.logs)) self.logs } }
-        ensures restarts { (s : Server) (cutoff begin number : ℕ) (files : List (List ℕ)) → Called s → (of : AreFilesAfter s cutoff begin files) →
-            AreAdded (without_logs cutoff begin number) files self → Restarts s cutoff begin files of result }
+        ensures restarts { (s : Server) (cutoff begin number salt : ℕ) (files : List (List ℕ)) → Called s → (of : AreFilesAfter s cutoff begin files) →
+            AreAdded (without_logs cutoff begin number salt) files self → Restarts s cutoff begin files of result }
     {
         let mut keeper = self.keeper;
         settle(&mut keeper.logs);
@@ -118,12 +122,13 @@ fn read_back(alloc: Global, bytes: &[u8], clock: u64) -> Result<Log, KeeperFault
     ensures ok { IfOk result (IsBack clock bytes.now) }
     ensures fault { IfErr result (λ fault. (fault ≡ faults.Log) × IsNoLog clock bytes.now ⊎ (fault ≡ faults.Writer MemoryFault)) }
 {
-    let front = match cut_log(alloc, bytes) {
-        Ok((front, _)) => front,
+    let front = match log_front(alloc, bytes) {
+        Ok(front) => front,
         Err(FeedFault::Memory) => return Err(WriterFault::Memory.into()),
         Err(_) => return Err(KeeperFault::Log),
     };
-    let Some(writer) = LogWriter::resumed(alloc, front) else {
+    let size = bytes.len() as u64;
+    let Some(writer) = LogWriter::resumed(alloc, front, mark_at(bytes), size) else {
         return Err(KeeperFault::Log);
     };
     if front.latest == u64::MAX || front.latest.saturating_sub(1) > clock {
@@ -134,6 +139,14 @@ fn read_back(alloc: Global, bytes: &[u8], clock: u64) -> Result<Log, KeeperFault
         from: front.head.from,
         stage: Stage::Writing(writer),
     })
+}
+
+/// Returns the mark of the file, if it has blocks.
+fn mark_at(bytes: &[u8]) -> Option<u32>
+    ensures { HasMark result bytes.now }
+{
+    let (header, _) = header_at(bytes)?;
+    Some(header.mark())
 }
 
 /// Returns the number of the next worker, with this segment. Err: no number is left.

@@ -1,18 +1,21 @@
 //! Follows a segment of a log by the next one.
 ghost use Rattle.std.specs.Prelude.{◌≡◌, ◌⊎◌, ◌+◌, ◌<◌, ◌^◌, true, Some, None, Err, length, slice_get, IfOk, IfErr, OnErr};
 ghost use Rattle.mt_record.specs.Encoding.{segment_head};
-ghost use Rattle.mt_writer.specs.Journals.{Journal, Keeps, Begins, IsSealed};
+ghost use Rattle.mt_writer.specs.Journals.{Journal, NewFile, Keeps, Begins, IsSealed};
 ghost use Rattle.mt_writer.specs.Refusing.{MayNotSeal};
 ghost use Rattle.mt_writer.specs.declared.writer_fault.WriterFault.TheVariants as writer_faults;
 ghost use Rattle.mt_laws.specs.Writing.{Server, Stands};
 ghost use Rattle.mt_keeper.specs.declared.keeper.Log.{Log as Entry};
 ghost use Rattle.mt_keeper.specs.Keeping.{Holds, numbered, IsFollowedBy};
 ghost use Rattle.mt_keeper.specs.Calling.{StepsToNext};
+ghost use Rattle.mt_keeper.specs.Filing.{BeginsFile};
 ghost use Rattle.mt_keeper.specs.Refusals.{HasFailed, HasNoNext, IsNotWhole, IsUnsealable};
+ghost use Rattle.mt_keeper.specs.declared.keeper.Stage.TheVariants.{Coming};
 ghost use Rattle.mt_keeper.specs.declared.keeper_fault.KeeperFault.TheVariants as faults;
 
 use crate::keeper::{Keeper, Log, Stage};
 use crate::keeper_fault::KeeperFault;
+use mt_block::Header;
 use mt_record::Segment;
 use mt_writer::{LogWriter, NewLog, WriterFault};
 use std::alloc::Global;
@@ -35,6 +38,7 @@ impl Keeper {
     /// all of its records are synced.
     pub fn begin_segment(&mut self, alloc: Global, log: usize) -> Result<usize, KeeperFault>
         ensures step { (s : Server) → Stands s → Holds self.old s → IfOk result (λ next. (next ≡ length (numbered s)) × StepsToNext s log self.new) }
+        ensures file { IfOk result (BeginsFile self.old self.new) }
         ensures err { OnErr result (self.new ≡ self.old) }
         ensures failed { self.old.failed ≡ true → result ≡ Err (faults.Writer writer_faults.Failed) }
         ensures fault { (s : Server) → Holds self.old s → IfErr result (λ fault.
@@ -47,12 +51,15 @@ impl Keeper {
             return Err(WriterFault::Memory.into());
         }
         let number = self.logs.len();
+        let salt = self.salt;
+        let workers = self.workers;
         let Some(log) = self.logs.get_mut(log) else {
             return Err(KeeperFault::Log);
         };
-        match log.follow(alloc) {
+        match log.follow(alloc, salt, workers) {
             Ok(next) => {
                 self.logs.push_reserved(next);
+                self.salt = salt.wrapping_add(1);
                 Ok(number)
             }
             Err(fault) => Err(fault),
@@ -61,9 +68,11 @@ impl Keeper {
 }
 
 impl Log {
-    /// Seals the file, and begins the next segment. Err: the log is as it was.
-    fn follow(&mut self, alloc: Global) -> Result<Log, KeeperFault>
+    /// Seals the file, and begins the next segment, with this salt, of a server with this number of workers. Err: the log is as
+    /// it was.
+    fn follow(&mut self, alloc: Global, salt: u64, workers: u32) -> Result<Log, KeeperFault>
         ensures ok { IfOk result (IsFollowedBy self.old self.new) }
+        ensures header { IfOk result (λ next. (new : NewFile) × (next.stage ≡ Coming new) × (new.header.salt ≡ salt) × (new.header.workers ≡ workers)) }
         ensures err { OnErr result (self.new ≡ self.old) }
         ensures fault { IfErr result (λ fault. HasNoNext (Some self.old) fault ⊎ IsUnsealable self.old fault) }
     {
@@ -75,7 +84,14 @@ impl Log {
             self.stage = stage;
             return Err(KeeperFault::Log);
         };
-        match next_of(alloc, writer, segment) {
+        let header = Header {
+            salt,
+            worker: segment.worker,
+            segment: segment.number,
+            workers,
+            from: writer.last(),
+        };
+        match next_of(alloc, writer, header) {
             Ok(new) => {
                 let from = new.mark();
                 self.stage = Stage::Followed(from);
@@ -94,24 +110,27 @@ impl Log {
     }
 }
 
-/// Seals the file of this segment, and begins the next one. Err: the writer as it was.
+/// Seals the file of this header's segment, and begins the next one. Err: the writer as it was.
 fn next_of(
     alloc: Global,
     writer: LogWriter,
-    segment: Segment,
+    header: Header,
 ) -> Result<NewLog, (KeeperFault, LogWriter)>
-    ensures begins { IfOk result (λ new. Begins new (segment_head new.mark segment.worker (segment.number + 1)) × (segment.number + 1 < 2 ^ 32)) }
+    requires { header.from ≡ writer.last }
+    ensures begins { IfOk result (λ new. Begins new (segment_head new.mark header.worker (header.segment + 1)) × (header.segment + 1 < 2 ^ 32)) }
     ensures last { IfOk result (λ new. new.mark ≡ writer.last) }
-    ensures whole { (j : Journal) → Keeps writer j → j.head.segment ≡ Some segment → IfOk result (λ new. IsSealed new.mark segment.worker segment.number j) }
+    ensures header { IfOk result (λ new. (new.header.salt ≡ header.salt) × (new.header.workers ≡ header.workers)) }
+    ensures whole { (j : Journal) → Keeps writer j → j.head.segment ≡ Some (record { worker = header.worker; number = header.segment }) →
+        IfOk result (λ new. IsSealed new.mark header.worker header.segment j) }
     ensures err { IfErr result (λ err. err.1 ≡ writer) }
-    ensures fault { IfErr result (λ err. (err.0 ≡ faults.Writer writer_faults.Full) × (segment.number + 1 ≡ 2 ^ 32)
+    ensures fault { IfErr result (λ err. (err.0 ≡ faults.Writer writer_faults.Full) × (header.segment + 1 ≡ 2 ^ 32)
         ⊎ ((err.0 ≡ faults.Writer writer_faults.Memory) ⊎ (err.0 ≡ faults.Early) × MayNotSeal writer)) }
 {
-    let Some(number) = segment.number.checked_add(1) else {
+    let Some(segment) = header.segment.checked_add(1) else {
         return Err((WriterFault::Full.into(), writer));
     };
     let last = writer.last();
-    match NewLog::segment(alloc, last, segment.worker, number, last) {
+    match NewLog::begin(alloc, Header { segment, ..header }, last) {
         Err(_) => Err((WriterFault::Memory.into(), writer)),
         Ok(new) => match writer.seal() {
             Err(writer) => Err((KeeperFault::Early, writer)),

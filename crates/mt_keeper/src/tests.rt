@@ -2,7 +2,8 @@
 ghost use Rattle.std.specs.Prelude.{◌≡◌, IfSome};
 
 use crate::{Crew, First, Keeper, KeeperFault, LentLog, Restart};
-use mt_record::Given;
+use mt_record::{Given, encode_log_header_3, encode_record, read_log};
+use mt_words::Record;
 use mt_writer::WriterFault;
 use std::alloc::Global;
 use std::process::Abort;
@@ -10,7 +11,7 @@ use std::thread::{Threads, join};
 
 /// Returns the keeper of a new folder.
 fn keeper(alloc: Global, rt: &impl Abort) -> Keeper {
-    First::begin(alloc).expect(rt, "memory").created()
+    First::begin(alloc, 7).expect(rt, "memory").created()
 }
 
 /// Appends all that log 0 holds, and syncs it.
@@ -62,12 +63,30 @@ fn a_segment_follows_once_all_is_synced(rt: HostRuntime) {
 #[test]
 fn a_restart_goes_on_with_a_log_once(rt: HostRuntime) {
     let alloc = rt.alloc();
-    let first = First::begin(alloc).expect(&rt, "memory");
-    let mut restart = Restart::new(alloc, 1, 0, 0);
-    assert_eq!(&rt; restart.add(alloc, first.bytes()), Ok(0));
-    assert_eq!(&rt; restart.add(alloc, first.bytes()), Err(KeeperFault::Log));
+    let mut log = Vec::new(alloc);
+    encode_log_header_3(0, 0, 0, &mut log).expect(&rt, "memory");
+    encode_record(&Record::mark(1), &mut log).expect(&rt, "memory");
+    let mut restart = Restart::new(alloc, 1, 0, 0, 9);
+    assert_eq!(&rt; restart.add(alloc, &log), Ok(0));
+    assert_eq!(&rt; restart.add(alloc, &log), Err(KeeperFault::Log));
     let mut keeper = restart.done();
     assert_eq!(&rt; keeper.remove(0, b"k"), Ok(1));
+}
+
+#[test]
+fn a_restart_goes_on_with_blocks(rt: HostRuntime) {
+    let alloc = rt.alloc();
+    let first = First::begin(alloc, 7).expect(&rt, "memory");
+    let mut file = Vec::new(alloc);
+    file.extend_from_slice(first.bytes()).expect(&rt, "memory");
+    let mut restart = Restart::new(alloc, 1, 0, 0, 9);
+    assert_eq!(&rt; restart.add(alloc, &file), Ok(0));
+    let mut keeper = restart.done();
+    assert_eq!(&rt; keeper.remove(0, b"k"), Ok(1));
+    let block = keeper.take(0, Vec::new(alloc)).expect(&rt, "a block");
+    file.extend_from_slice(&block).expect(&rt, "memory");
+    let log = read_log(alloc, &file).expect(&rt, "a log");
+    assert_eq!(&rt; log.front.count, 2);
 }
 
 #[test]

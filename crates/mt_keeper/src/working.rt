@@ -4,10 +4,10 @@ ghost use Rattle.mt_words.specs.Changes.{IsLogged};
 ghost use Rattle.mt_words.specs.declared.update.Kind.TheVariants as kinds;
 ghost use Rattle.mt_record.specs.Given.{column_of, kind_of};
 ghost use Rattle.mt_writer.specs.declared.writer_fault.WriterFault.TheVariants.{Failed};
-ghost use Rattle.std.specs.Prelude.{length, replicate};
-ghost use Rattle.mt_record.specs.Logs.{log_bytes};
-ghost use Rattle.mt_writer.specs.Files.{file_bytes};
-ghost use Rattle.mt_writer.specs.Journals.{Journal, Keeps, file_of, handed_out};
+ghost use Rattle.std.specs.Prelude.{length, replicate, flat_map};
+ghost use Rattle.mt_record.specs.Spelling.{spelling};
+ghost use Rattle.mt_writer.specs.Framing.{framed};
+ghost use Rattle.mt_writer.specs.Journals.{Journal, Keeps, IsFileOf, taking};
 ghost use Rattle.mt_keeper.specs.Crews.{Deed, wrote, spent, marked, took, synced, looked, asked, HasDone};
 ghost use Rattle.mt_keeper.specs.Refusals.{LentTakesNot, LentMarksNot, LentHasFailed, IsLentInFlight, IsNoLog};
 ghost use Rattle.mt_keeper.specs.declared.keeper_fault.KeeperFault.TheVariants as faults;
@@ -89,7 +89,8 @@ impl Crew {
     pub fn take(&self, log: &mut LentLog, spare: Vec<u8>) -> Result<Vec<u8>, KeeperFault>
         requires { log.old.table ≡ self.now.table }
         ensures ok { (deeds : List Deed) → HasDone self.now.before log.old deeds → OnOk result (HasDone self.now.before log.new (deeds ++ took ∷ [])) }
-        ensures bytes { (j : Journal) → Keeps log.old.writer j → IfOk result (λ bytes. log_bytes j.head (handed_out j) ++ bytes.items ≡ file_bytes (file_of j)) }
+        ensures bytes { (j : Journal) → Keeps log.old.writer j → IfOk result (λ bytes. bytes.items ≡ framed log.old.writer.mark (flat_map spelling j.held)) }
+        ensures file { (j : Journal) (file : List ℕ) → Keeps log.old.writer j → IsFileOf log.old.writer j file → IfOk result (λ bytes. IsFileOf log.new.writer (taking j) (file ++ bytes.items)) }
         ensures err { OnErr result (log.new ≡ log.old) }
         ensures same { log.new.table ≡ log.old.table }
         ensures failed { log.old.failed ≡ true → (result ≡ Err (faults.Writer Failed)) × (log.new ≡ log.old) }

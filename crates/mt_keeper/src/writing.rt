@@ -1,18 +1,20 @@
 //! Appends records to logs, hands out their bytes, and notes what is synced.
-ghost use Rattle.std.specs.Prelude.{◌≡◌, ◌⊎◌, ◌<◌, ◌+◌, ◌++◌, ℕ, true, Some, Err, map, IfOk, IfErr, OnOk, OnErr, slice_get};
+ghost use Rattle.std.specs.Prelude.{◌≡◌, ◌⊎◌, ◌<◌, ◌+◌, ◌++◌, ℕ, true, Some, Err, map, IfOk, IfErr, OnOk, OnErr, slice_get, List, flat_map};
 ghost use Rattle.mt_words.specs.Changes.{IsLogged, changed};
 ghost use Rattle.mt_words.specs.Built.{mark_of, put_of, remove_of, erase_of};
 ghost use Rattle.mt_words.specs.declared.update.Kind.TheVariants as kinds;
 ghost use Rattle.mt_record.specs.Given.{column_of, kind_of};
-ghost use Rattle.mt_record.specs.Logs.{log_bytes};
+ghost use Rattle.mt_record.specs.Spelling.{spelling};
 ghost use Rattle.mt_record.specs.Resuming.{greatest_timestamp};
-ghost use Rattle.mt_writer.specs.Files.{file_bytes};
-ghost use Rattle.mt_writer.specs.Journals.{Journal, file_of, handed_out};
+ghost use Rattle.mt_writer.specs.Framing.{framed};
+ghost use Rattle.mt_writer.specs.Journals.{Journal, Writer, taking};
 ghost use Rattle.mt_writer.specs.declared.writer_fault.WriterFault.TheVariants.{Failed};
 ghost use Rattle.mt_laws.specs.Writing.{writing, Server};
 ghost use Rattle.mt_keeper.specs.Keeping.{Holds, numbered};
 ghost use Rattle.mt_keeper.specs.Calling.{Steps, appended, with_taken, with_synced};
-ghost use Rattle.mt_keeper.specs.Refusals.{HasFailed, HasNoStamp, IsNotWritten, TakesNot, NoMark, NoChange, IsInFlight};
+ghost use Rattle.mt_keeper.specs.Filing.{HasFile};
+ghost use Rattle.mt_keeper.specs.declared.keeper.Stage.TheVariants.{Writing};
+ghost use Rattle.mt_keeper.specs.Refusals.{IsAt, HasFailed, HasNoStamp, IsNotWritten, TakesNot, NoMark, NoChange, IsInFlight};
 ghost use Rattle.mt_keeper.specs.declared.keeper_fault.KeeperFault.TheVariants as faults;
 
 use crate::keeper::{Keeper, Stage};
@@ -78,8 +80,10 @@ impl Keeper {
     /// bytes are taken. `Early`: `synced` was not called for the write before it.
     pub fn take(&mut self, log: usize, spare: Vec<u8>) -> Result<Vec<u8>, KeeperFault>
         ensures step { (s : Server) → Holds self.old s → OnOk result (Steps s (with_taken s log) self.new) }
-        ensures bytes { (s : Server) (j : Journal) → Holds self.old s → slice_get (numbered s) log ≡ Some (writing j) →
-            IfOk result (λ bytes. log_bytes j.head (handed_out j) ++ bytes.items ≡ file_bytes (file_of j)) }
+        ensures bytes { (s : Server) (j : Journal) (w : Writer) → Holds self.old s → slice_get (numbered s) log ≡ Some (writing j) → IsAt self.old log (Writing w) →
+            IfOk result (λ bytes. bytes.items ≡ framed w.mark (flat_map spelling j.held)) }
+        ensures file { (s : Server) (j : Journal) (file : List ℕ) → Holds self.old s → slice_get (numbered s) log ≡ Some (writing j) → HasFile self.old log j file →
+            IfOk result (λ bytes. HasFile self.new log (taking j) (file ++ bytes.items)) }
         ensures err { OnErr result (self.new ≡ self.old) }
         ensures failed { self.old.failed ≡ true → result ≡ Err (faults.Writer Failed) }
         ensures fault { (s : Server) → Holds self.old s → IfErr result (λ fault. HasFailed self.old fault ⊎ (IsNotWritten self.old log fault ⊎ IsInFlight s log fault)) }

@@ -1,15 +1,17 @@
-use Rattle.std.proofs.Common.{◌≡◌, inl, inr, ◌++◌, List, refl, sym, ap, ◌∙◌, subst, arith}
-use Rattle.mt_record.specs.Logs.{log_bytes}
-use Rattle.mt_writer.specs.Files.{file_bytes}
+use Rattle.std.proofs.Common.{inl, inr, ◌++◌, List, flat_map, refl, sym, ap, ◌∙◌, subst, arith}
+use Rattle.mt_record.specs.Spelling.{spelling}
+use Rattle.mt_writer.specs.Framing.{framed}
 use Rattle.std.proofs.lemmas.Bool.{false≢true}
-use Rattle.mt_writer.specs.Journals.{Journal, file_of, handed_out, taking}
+use Rattle.mt_writer.specs.Journals.{Journal, Writer, IsFileOf, taking}
 use Rattle.mt_laws.specs.Writing.{hand_out}
+use Rattle.mt_keeper.specs.declared.keeper.Stage.TheVariants.{Writing}
 use Rattle.mt_keeper.specs.declared.keeper.Log.{Log}
 use Rattle.mt_keeper.specs.contracts.keeper.Keeper.{the_view}
 use Rattle.mt_keeper.specs.Keeping.{Keeping, Holds}
 use Rattle.mt_keeper.proofs.OneChanged.{reads, put_back}
 use Rattle.mt_keeper.proofs.Writes.{writes, kept_at, same_journal, same_records, records_taken}
 use Rattle.mt_keeper.proofs.Refused.{not_written}
+use Rattle.mt_keeper.proofs.Files.{set_there, same_writer}
 use Rattle.mt_keeper.proofs.keeper.Keeper.take.Goals as goal
 
 pub returns-in_default-stage : goal.returns-in_default-stage
@@ -17,7 +19,8 @@ returns-in_default-stage c =
     let k = the_view c.self.inside in
     let x = c.in-Some.log.now in record {
       step = λ s holds. tt;
-      bytes = λ s j holds at. tt;
+      bytes = λ s j w holds at there. tt;
+      file = λ s j file holds at has. tt;
       err = ap (λ (logs : List Log). record k { logs = logs }) (put_back k.logs c.args.log x c.in-Some.ensures.value) ∙ c.self.view_is;
       failed = λ is. absurd (false≢true (sym c.if-self.false ∙ ap (λ (y : Keeping). y.failed) c.self.view_is ∙ is));
       fault = λ s holds. inr (inl (not_written k c.args.self.now c.args.log x c.self.view_is (reads k.logs c.args.log x c.in-Some.ensures.item.3.0 c.in-Some.ensures.value) c.in_default-stage.not-Writing));
@@ -43,10 +46,25 @@ returns-clause-step c = λ s holds.
     (λ front back j keeps kept. hand_out s front back later j kept)
 
 pub returns-clause-bytes : goal.returns-clause-bytes
-returns-clause-bytes c = λ s j holds at.
+returns-clause-bytes c = λ s j v holds at there.
     let k = the_view c.self.inside in
     let x = c.in-Some.log.now in
-    let kept = kept_at k s c.args.log x c.in-Writing.writer (subst (λ (y : Keeping). Holds y s) (sym c.self.view_is) holds)
-    (reads k.logs c.args.log x c.in-Some.ensures.item.3.0 c.in-Some.ensures.value) c.in-Writing.is in
+    let w = c.in-Writing.writer in
+    let stands = reads k.logs c.args.log x c.in-Some.ensures.item.3.0 c.in-Some.ensures.value in
+    let kept = kept_at k s c.args.log x w (subst (λ (y : Keeping). Holds y s) (sym c.self.view_is) holds) stands c.in-Writing.is in
     let same = same_journal kept.journal j (sym kept.at ∙ at) in
-    subst (λ (i : Journal). log_bytes i.head (handed_out i) ++ c.in-Some-take.bytes.items ≡ file_bytes (file_of i)) same (c.in-Some-take.ensures.bytes kept.journal kept.keeps)
+    let writer = same_writer k c.args.self.now c.args.log x w v c.self.view_is stands c.in-Writing.is there in
+    c.in-Some-take.ensures.bytes kept.journal kept.keeps ∙ (λ i. framed (writer i).mark (flat_map spelling (same i).held))
+
+pub returns-clause-file : goal.returns-clause-file
+returns-clause-file c = λ s j file holds at has.
+    let k = the_view c.self.inside in
+    let x = c.in-Some.log.now in
+    let w = c.in-Writing.writer in
+    let stands = reads k.logs c.args.log x c.in-Some.ensures.item.3.0 c.in-Some.ensures.value in
+    let kept = kept_at k s c.args.log x w (subst (λ (y : Keeping). Holds y s) (sym c.self.view_is) holds) stands c.in-Writing.is in
+    let same = same_journal kept.journal j (sym kept.at ∙ at) in
+    let writer = same_writer k c.args.self.now c.args.log x w has.writer c.self.view_is stands c.in-Writing.is has.stands in
+    let is_file = subst (λ (y : Writer × Journal). IsFileOf y.0 y.1 file) (λ i. (sym writer i, sym same i)) has.is_file in
+    let after = subst (λ (i : Journal). IsFileOf c.take.new.self (taking i) (file ++ c.in-Some-take.bytes.items)) same (c.in-Some-take.ensures.file kept.journal file kept.keeps is_file) in
+    record { writer = c.take.new.self; stands = record { log = record x { stage = Writing c.take.new.self }; stands = set_there k.logs c.args.log x _ stands; is = refl }; is_file = after }

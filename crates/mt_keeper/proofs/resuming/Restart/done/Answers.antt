@@ -9,7 +9,7 @@ use Rattle.mt_keeper.proofs.Restarts.{restarts}
 use Rattle.mt_keeper.proofs.resuming.Restart.done.Goals as goal
 
 pub returns-clause-restarts : goal.returns-clause-restarts
-returns-clause-restarts c = λ s cutoff begin number files so_far of added.
+returns-clause-restarts c = λ s cutoff begin number salt files so_far of added.
     let k = the_view c.keeper.inside in
     let old = c.deref_mut.result.now in
     let same : k ≡ c.args.self = c.keeper.view_is ∙ c.self.view_is in
@@ -18,4 +18,4 @@ returns-clause-restarts c = λ s cutoff begin number files so_far of added.
     with_items_is c.keeper.inside.logs c.settle.new.logs (omega (arith, ap length c.settle.ensures, long, c.deref_mut.ensures.len))
     ∙ (c.settle.ensures ∙ ap (λ (ls : List Log). map (among (segments_of ls)) ls) c.deref_mut.ensures.value) in
     subst (λ (ls : List Log). Restarts s cutoff begin files of (record k { logs = ls })) (sym logs)
-    (restarts s cutoff begin number files k so_far of (subst (λ (x : Keeping). AreAdded (without_logs cutoff begin number) files x) (sym same) added))
+    (restarts s cutoff begin number salt files k so_far of (subst (λ (x : Keeping). AreAdded (without_logs cutoff begin number salt) files x) (sym same) added))
