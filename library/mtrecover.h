@@ -147,17 +147,18 @@ uint32_t mtr_report_nameless(mtr_place *store, size_t i, uint64_t *part);
 /* What becomes of a log if a server resumes. */
 typedef struct mtr_resumed {
     uint64_t dropped; /* its updates at or past the cutoff, which go */
-    uint32_t format;  /* its format, 1 to 3, in which records go on */
-    bool changed;     /* whether the bytes differ from the log's */
+    uint32_t format;  /* its format, 1 to 4, in which records go on */
+    bool changed;     /* whether the bytes differ from the log's; always of format 4 */
     bool ended;       /* whether a mark at 2^64 - 1 ends them: go on in another log */
 } mtr_resumed;
 
 /* What replaces a log if a server resumes after a recovery with this cutoff: its header, with a `from` of at most the
- * cutoff; its records below the cutoff; a mark at the cutoff; and the mark that ends the log, if it was ended. A new log
- * begins with mtr_log_header(1, 0, ..) and mtr_mark(cutoff, ..). DONE or SHORT: *resumed is told. Else it is as before.
- * FAULT: the bytes are no log of formats 1 to 3. Never WRONG. */
-uint32_t mtr_resume_log(const uint8_t *log, size_t length, uint64_t cutoff, mtr_resumed *resumed, uint8_t *out,
-                        size_t room, size_t *count);
+ * cutoff; its records below the cutoff; a mark at the cutoff; and the mark that ends the log, if it was ended. A log of
+ * format 4 is replaced by a file of format 4 with this salt, a random number (mtr_log_header_4). Room for length + 33 bytes
+ * is enough: a mark has 17 bytes, and it may need a block more. A new log begins with a header, with a `from` of 0, and
+ * mtr_mark(cutoff, ..). DONE or SHORT: *resumed is told. Else it is as before. FAULT: the bytes are no log. Never WRONG. */
+uint32_t mtr_resume_log(const uint8_t *log, size_t length, uint64_t cutoff, uint64_t salt, mtr_resumed *resumed,
+                        uint8_t *out, size_t room, size_t *count);
 
 /* Whether this key is in the store. ABSENT: it is not. WRONG: the place holds no store. Never MEMORY. */
 uint32_t mtr_exists(mtr_place *store, const uint8_t *key, size_t key_length);
@@ -207,8 +208,8 @@ uint32_t mtr_fault_text(const mtr_fault *fault, uint8_t *out, size_t room, size_
 /* What a library is. */
 typedef struct mtr_versions {
     uint32_t library;     /* its version: 3 */
-    uint32_t log_format;  /* the greatest format of logs that it knows: 3 */
-    uint32_t part_format; /* the greatest format of parts that it knows: 2 */
+    uint32_t log_format;  /* the greatest format of logs that it knows: 4 */
+    uint32_t part_format; /* the greatest format of parts that it knows: 4 */
 } mtr_versions;
 
 /* Tells these of the library that is linked. */
@@ -230,8 +231,9 @@ typedef struct mtr_column {
  * mtr_keeper_failed on each call that would change the keeper answers FAILED, or ABSENT.
  *
  * Puts the keeper of an empty folder into the empty place. It has one log, of number 0, that is to be created, and until
- * then no other. WRONG: the place is not empty. */
-uint32_t mtr_keeper_begin(mtr_place *keeper);
+ * then no other. Logs are of format 4. `salt` is a random number: the first file has it, and each further one the next
+ * number, so that bytes of other files that a crash leaves in a file are known. WRONG: the place is not empty. */
+uint32_t mtr_keeper_begin(mtr_place *keeper, uint64_t salt);
 
 /* Begins the log of a new worker, which is to be created. From then on acknowledgements wait for it. DONE: *log is its
  * number. */
@@ -244,20 +246,22 @@ uint32_t mtr_log_rotate(mtr_place *keeper, size_t log, size_t *next);
 /* The worker and the number of the segment that a log is, for its file's name. */
 uint32_t mtr_log_segment(mtr_place *keeper, size_t log, uint32_t *worker, uint32_t *segment);
 
-/* The bytes of a log that is to be created. Write them to a file of another name, sync it, rename it, and sync the folder.
- * Then tell mtr_log_created, before which it takes no record. */
+/* The bytes of a log that is to be created: 77, a header and a block with a mark. Write them to a file of another name, sync
+ * it, rename it, and sync the folder. Then tell mtr_log_created, before which it takes no record. */
 uint32_t mtr_log_bytes(mtr_place *keeper, size_t log, uint8_t *out, size_t room, size_t *count);
 uint32_t mtr_log_created(mtr_place *keeper, size_t log);
 
 /* Appends a put, a remove or an erase. DONE: *stamp is its timestamp and its version, above all stamps before. So call it
- * while no other update of the key is made. WRONG: also if no log of format 2 has the record. FULL: rotate the log. */
+ * while no other update of the key is made. WRONG: also if no log of format 2 has the record. FULL: rotate the log. EARLY:
+ * the log holds more than 4,190,052 bytes that were not taken: take, write and sync them first. */
 uint32_t mtr_log_put(mtr_place *keeper, size_t log, const uint8_t *key, size_t key_length, const mtr_column *columns,
                      size_t column_count, uint64_t *stamp);
 uint32_t mtr_log_remove(mtr_place *keeper, size_t log, const uint8_t *key, size_t key_length, uint64_t *stamp);
 uint32_t mtr_log_erase(mtr_place *keeper, size_t log, const uint8_t *key, size_t key_length, const uint8_t *numbers,
                        size_t number_count, uint64_t *stamp);
 
-/* Appends a mark beyond all stamps: once each log has synced one, all updates before may be acknowledged. */
+/* Appends a mark beyond all stamps: once each log has synced one, all updates before may be acknowledged. FULL, EARLY: as for
+ * mtr_log_put. */
 uint32_t mtr_log_mark(mtr_place *keeper, size_t log);
 
 /* Bytes of a place, lent until the next call that is given the place. */
@@ -266,9 +270,9 @@ typedef struct mtr_lent {
     size_t length;
 } mtr_lent;
 
-/* Takes all that was appended to the log since the last call, to be appended to its file and synced. From then on `buffer`
- * holds these bytes. EARLY: those of the last call are not synced. WRONG: also if `buffer` is not empty and holds no
- * bytes. */
+/* Takes all that was appended to the log since the last call, to be appended to its file by one write, and synced: of a file
+ * of format 4 one block. From then on `buffer` holds these bytes. EARLY: those of the last call are not synced. WRONG: also
+ * if `buffer` is not empty and holds no bytes. */
 uint32_t mtr_log_take(mtr_place *keeper, size_t log, mtr_place *buffer, mtr_lent *lent);
 
 /* Notes that all bytes taken of the log are in its file, which was synced since. */
@@ -304,12 +308,12 @@ uint32_t mtr_log_deleted(mtr_place *keeper, size_t log);
 
 /* Puts a keeper that goes on from this store into the empty place. It takes its logs, and no other call. All files
  * are a keeper's. First sync them and the folder, and delete the parts of all checkpoints but the report's: a later
- * recovery could choose another. `number` is the greatest number of a part that the folder had, or 0. WRONG: `keeper` is
- * not empty, or `store` holds no store. */
-uint32_t mtr_keeper_resume(mtr_place *keeper, mtr_place *store, uint32_t number);
+ * recovery could choose another. `number` is the greatest number of a part that the folder had, or 0. `salt` is as for
+ * mtr_keeper_begin: no salt of a file that mtr_resume_log gave. WRONG: `keeper` is not empty, or `store` holds no store. */
+uint32_t mtr_keeper_resume(mtr_place *keeper, mtr_place *store, uint32_t number, uint64_t salt);
 
 /* Adds a log that the last server left: the bytes that mtr_resume_log gave, once they are the file's. DONE: *number is its
- * number. WRONG: also if it is ended, or is a segment that was added, or the bytes are no log of format 2 or 3 that was
+ * number. WRONG: also if it is ended, or is a segment that was added, or the bytes are no log of formats 2 to 4 that was
  * resumed with the store's cutoff. */
 uint32_t mtr_keeper_add(mtr_place *keeper, const uint8_t *log, size_t length, size_t *number);
 
@@ -356,10 +360,27 @@ uint32_t mtr_crew_close(mtr_place *crew);
 
 /* Each of the following functions writes one encoding. `format` is that of the file that it is for, whose header says it:
  *
- *   format | of              | keys, up to | columns | values, up to | erases
- *        1 | logs, parts     | 1,024 bytes | 0 to 15 | 65,535 bytes  | no
- *        2 | logs, parts     | 4,096 bytes | 0 to 63 | 65,535 bytes  | yes
- *        3 | logs (segments) | as 2 */
+ *   format | of                     | keys, up to | columns | values, up to | erases
+ *        1 | logs, parts            | 1,024 bytes | 0 to 15 | 65,535 bytes  | no
+ *        2 | logs, parts            | 4,096 bytes | 0 to 63 | 65,535 bytes  | yes
+ *        3 | logs (segments)        | as 2
+ *        4 | logs (segments), parts | as 2
+ *
+ * A file of format 4 is a header and blocks, which have checksums. What stands behind the header of a log of format 3, or of
+ * a part of format 2, is cut into blocks anywhere; behind the last block of a part stands nothing. The header's salt is a
+ * random number, new for each file that is written. *mark is the mark of its blocks: DONE or SHORT, it is told. */
+
+/* The header of a log of format 4, 44 bytes. `workers` is the number of workers of the server. Never WRONG. */
+uint32_t mtr_log_header_4(uint64_t salt, uint32_t worker, uint32_t segment, uint32_t workers, uint64_t from, uint8_t *out,
+                          size_t room, size_t *count, uint32_t *mark);
+
+/* The header of a part of format 4, 36 bytes; else as mtr_part_header. Never WRONG. */
+uint32_t mtr_part_header_4(uint64_t salt, uint32_t number, uint64_t begin, uint16_t part, uint16_t parts, uint8_t *out,
+                           size_t room, size_t *count, uint32_t *mark);
+
+/* A block with this body, of 16 bytes more, for the file with this mark. WRONG: the body has more than 2^23 bytes. Never
+ * MEMORY. */
+uint32_t mtr_seal(uint32_t mark, const uint8_t *body, size_t length, uint8_t *out, size_t room, size_t *count);
 
 /* The header of a log of format 1 or 2. Updates below the timestamp `from` may be missing from the log. WRONG: another
  * format. */

@@ -97,6 +97,36 @@ static void test_others(void) {
     expect("a part of format 2", memcmp(file, "MTC2", 4) == 0);
 }
 
+/* Files of format 4: the checksums are worked out apart. */
+static void test_blocks(void) {
+    static const uint8_t log[] =
+        "MTL4\0\0\0\0\0\0\0\x07\0\0\0\0\0\0\0\x02\0\0\0\0\0\0\0\x01\0\0\0\x03\0\0\0\0\0\0\0\x07\xee\x08\x97\x2f"
+        "\xee\x08\x97\x2f\0\0\0\x11\x44\x84\x9b\xde\0\0\0\x09\x03\0\0\0\0\0\0\0\x08\0\0\0\x09\x96\x44\x24\x7d";
+    static const uint8_t part[] =
+        "MTC4\0\0\0\0\0\0\0\x07\0\0\0\x01\0\0\0\x01\0\0\0\x01\0\0\0\0\0\0\0\x02\xb9\x86\x42\xd1";
+    static uint8_t body[(1 << 23) + 1], out[(1 << 23) + 16];
+    uint8_t record[17];
+    uint32_t mark = 0;
+    size_t count = 0;
+    length = 0;
+    append(mtr_log_header_4(7, 2, 1, 3, 7, rest(), room(), &count, &mark), &count, 44);
+    expect("its mark", mark == 798427374 && mtr_mark(8, record, sizeof record, &count) == MTR_DONE);
+    append(mtr_seal(mark, record, sizeof record, rest(), room(), &count), &count, 33);
+    expect("a log of format 4", length == sizeof log - 1 && memcmp(file, log, length) == 0);
+    length = 0;
+    append(mtr_part_header_4(7, 1, 2, 0, 1, rest(), room(), &count, &mark), &count, 36);
+    expect("a part's header", length == sizeof part - 1 && memcmp(file, part, length) == 0 && mark == 3510798009);
+    left = 0;
+    expect("no memory", mtr_log_header_4(7, 2, 1, 3, 7, out, 43, &count, &mark) == MTR_MEMORY && mark == 3510798009);
+    expect("a block needs none", mtr_seal(mark, body, sizeof body - 1, out, sizeof out, &count) == MTR_DONE &&
+                                     count == sizeof out);
+    left = SIZE_MAX;
+    expect("a short header", mtr_log_header_4(7, 2, 1, 3, 7, out, 43, &count, &mark) == MTR_SHORT && count == 44 &&
+                                 mark == 798427374);
+    expect("a short block", mtr_seal(mark, NULL, 0, out, 15, &count) == MTR_SHORT && count == 16);
+    expect("a long body", mtr_seal(mark, body, sizeof body, out, sizeof out, &count) == MTR_WRONG && count == 16);
+}
+
 static void test_refusals(void) {
     uint8_t out[] = {9, 9, 9, 9};
     mtr_column columns[] = {{1, {text("p"), 1}}, {1, {text("o"), 1}}};
@@ -120,7 +150,7 @@ static void test_formats(void) {
     mtr_column column = {15, {value, 65535}}, longer = {0, {value, 65536}};
     uint32_t format;
     size_t count = 0;
-    for (format = 1; format <= 3; format++) {
+    for (format = 1; format <= 4; format++) {
         size_t most = format == 1 ? 1024 : 4096;
         column.number = format == 1 ? 15 : 63;
         expect("a greatest put", mtr_put(format, 1, 1, key, most, &column, 1, out, sizeof out, &count) == MTR_DONE);
@@ -139,14 +169,14 @@ static void test_formats(void) {
                    refuses(mtr_erase(format, 1, 1, key, 1, &column.number, 1, out, sizeof out, &count), &count) &&
                    refuses(mtr_entry(format, 1, key, 1, &column, 1, out, sizeof out, &count), &count));
     }
-    for (format = 0; format <= 4; format++) {
+    for (format = 0; format <= 5; format++) {
         count = 7;
         expect("a header of another format",
                (format == 1 || format == 2) ||
                    (refuses(mtr_log_header(format, 0, out, sizeof out, &count), &count) &&
                     refuses(mtr_part_header(format, 1, 2, 0, 1, out, sizeof out, &count), &count)));
         expect("a record of another format",
-               (format >= 1 && format <= 3) ||
+               (format >= 1 && format <= 4) ||
                    refuses(mtr_remove(format, 1, 1, key, 1, out, sizeof out, &count), &count));
     }
 }
@@ -513,28 +543,54 @@ static void test_resume(void) {
     mtr_resumed resumed = {9, 9, true, true};
     uint8_t out[256] = {9};
     size_t count = 0;
-    expect("a log is as it was", mtr_resume_log(examples[0].bytes, examples[0].length, 40, &resumed, out, 256, &count) ==
+    expect("a log is as it was", mtr_resume_log(examples[0].bytes, examples[0].length, 40, 8, &resumed, out, 256, &count) ==
                                      MTR_DONE && count == 138 && resumed.dropped == 0 && !resumed.changed &&
                                      resumed.format == 1 && !resumed.ended && memcmp(out, examples[0].bytes, count) == 0);
-    expect("a log is replaced", mtr_resume_log(examples[1].bytes, examples[1].length, 41, &resumed, out, 256, &count) ==
+    expect("a log is replaced", mtr_resume_log(examples[1].bytes, examples[1].length, 41, 8, &resumed, out, 256, &count) ==
                                     MTR_DONE && count == 139 && resumed.dropped == 1 && resumed.changed &&
                                     memcmp(out, examples[1].bytes, 122) == 0 && memcmp(out + 122, mark, 17) == 0);
     out[0] = 9;
     resumed.dropped = 9;
-    expect("short", mtr_resume_log(examples[1].bytes, examples[1].length, 40, &resumed, out, 138, &count) == MTR_SHORT &&
+    expect("short", mtr_resume_log(examples[1].bytes, examples[1].length, 40, 8, &resumed, out, 138, &count) == MTR_SHORT &&
                         count == 139 && resumed.dropped == 1 && out[0] == 9);
-    expect("no log", mtr_resume_log(text("x"), 1, 40, &resumed, out, 256, &count) == MTR_FAULT && resumed.dropped == 1);
+    expect("no log", mtr_resume_log(text("x"), 1, 40, 8, &resumed, out, 256, &count) == MTR_FAULT && resumed.dropped == 1);
     length = 0;
     append(mtr_segment_header(7, 2, 1, rest(), room(), &count), &count, 20);
     append(mtr_mark(UINT64_MAX, rest(), room(), &count), &count, 17);
-    expect("an ended segment", mtr_resume_log(file, length, 40, &resumed, out, 256, &count) == MTR_DONE && count == 54 &&
+    expect("an ended segment", mtr_resume_log(file, length, 40, 8, &resumed, out, 256, &count) == MTR_DONE && count == 54 &&
                                    resumed.format == 3 && resumed.ended);
+}
+
+/* A log of format 4 goes on with another salt: one of this segment that begins at 7, with a block that ends it. */
+static void test_resume_blocks(void) {
+    mtr_resumed resumed = {9, 9, false, false};
+    uint8_t out[128], again[128], record[17];
+    uint32_t mark = 0;
+    size_t count = 0, most;
+    length = 0;
+    append(mtr_log_header_4(7, 2, 1, 3, 7, rest(), room(), &count, &mark), &count, 44);
+    mtr_mark(UINT64_MAX, record, sizeof record, &count);
+    append(mtr_seal(mark, record, sizeof record, rest(), room(), &count), &count, 33);
+    expect("it is replaced", mtr_resume_log(file, length, 5, 8, &resumed, out, sizeof out, &count) == MTR_DONE &&
+                                 count == 44 + 16 + 34 && resumed.dropped == 0 && resumed.format == 4 && resumed.changed &&
+                                 resumed.ended);
+    expect("its header", mtr_log_header_4(8, 2, 1, 3, 5, again, sizeof again, &most, &mark) == MTR_DONE &&
+                             memcmp(out, again, 44) == 0);
+    most = count;
+    expect("room", mtr_resume_log(file, length, 5, 8, &resumed, again, most - 1, &count) == MTR_SHORT && count == most &&
+                       mtr_resume_log(file, length, 5, 8, &resumed, again, most, &count) == MTR_DONE &&
+                       memcmp(out, again, most) == 0);
+    file[60] ^= 1;
+    expect("a torn block", mtr_resume_log(file, length, 5, 8, &resumed, out, sizeof out, &count) == MTR_DONE &&
+                               count == 44 + 16 + 17 && !resumed.ended);
+    file[12]++;
+    expect("no header", mtr_resume_log(file, length, 5, 8, &resumed, out, sizeof out, &count) == MTR_FAULT);
 }
 
 /* A keeper of one log that may be written. */
 static mtr_place example_keeper(void) {
     mtr_place keeper = {0};
-    expect("a keeper", mtr_keeper_begin(&keeper) == MTR_DONE && mtr_log_created(&keeper, 0) == MTR_DONE);
+    expect("a keeper", mtr_keeper_begin(&keeper, 7) == MTR_DONE && mtr_log_created(&keeper, 0) == MTR_DONE);
     return keeper;
 }
 
@@ -556,16 +612,20 @@ static void sync_log(mtr_place *keeper, size_t log) {
 }
 
 static void test_keeper(void) {
-    static const uint8_t first[] = "MTL3\0\0\0\0\0\0\0\0\0\0\0\0\0\0\0\0\0\0\0\x09\x03\0\0\0\0\0\0\0\x01\0\0\0\x09";
     mtr_place keeper = {0};
-    uint8_t out[64];
+    uint8_t out[128], record[17];
+    uint32_t mark = 0;
     uint64_t below = 0, stamp = 9;
     uint32_t worker = 9, segment = 9;
     size_t count = 0, log = 9;
     expect("no keeper", mtr_log_mark(&keeper, 0) == MTR_WRONG && mtr_keeper_failed(&keeper) == MTR_WRONG);
-    expect("a keeper", mtr_keeper_begin(&keeper) == MTR_DONE && mtr_keeper_begin(&keeper) == MTR_WRONG);
-    expect("its log is to be created", mtr_log_bytes(&keeper, 0, out, sizeof out, &count) == MTR_DONE &&
-                                           count == sizeof first - 1 && memcmp(out, first, count) == 0);
+    expect("a keeper", mtr_keeper_begin(&keeper, 7) == MTR_DONE && mtr_keeper_begin(&keeper, 7) == MTR_WRONG);
+    length = 0;
+    append(mtr_log_header_4(7, 0, 0, 1, 0, rest(), room(), &count, &mark), &count, 44);
+    mtr_mark(1, record, sizeof record, &count);
+    append(mtr_seal(mark, record, sizeof record, rest(), room(), &count), &count, 33);
+    expect("its log is to be created", mtr_log_bytes(&keeper, 0, out, sizeof out, &count) == MTR_DONE && count == length &&
+                                           memcmp(out, file, count) == 0);
     expect("its segment", mtr_log_segment(&keeper, 0, &worker, &segment) == MTR_DONE && worker == 0 && segment == 0);
     expect("no record yet", mtr_log_remove(&keeper, 0, text("a"), 1, &stamp) == MTR_WRONG && stamp == 9);
     expect("no second log yet", mtr_log_begin(&keeper, &log) == MTR_WRONG && log == 9);
@@ -596,18 +656,38 @@ static void test_take(void) {
     put_stamp(&keeper, 0);
     expect("an erase", mtr_log_erase(&keeper, 0, text("b"), 1, &number, 1, &stamp) == MTR_DONE && stamp == 3);
     length = 0;
-    append(mtr_put(3, 2, 2, text("a"), 1, &column, 1, rest(), room(), &count), &count, 33);
-    append(mtr_erase(3, 3, 3, text("b"), 1, &number, 1, rest(), room(), &count), &count, 30);
+    append(mtr_put(4, 2, 2, text("a"), 1, &column, 1, rest(), room(), &count), &count, 33);
+    append(mtr_erase(4, 3, 3, text("b"), 1, &number, 1, rest(), room(), &count), &count, 30);
     expect("no place for bytes", mtr_feed_log(&other) == MTR_DONE && mtr_log_take(&keeper, 0, &other, &lent) == MTR_WRONG);
     mtr_free(&other);
-    expect("records", mtr_log_take(&keeper, 0, &buffer, &lent) == MTR_DONE && lent.length == length &&
-                          memcmp(lent.at, file, length) == 0);
+    expect("a block of records", mtr_log_take(&keeper, 0, &buffer, &lent) == MTR_DONE && lent.length == 16 + length &&
+                                     memcmp(lent.at + 12, file, length) == 0);
     put_stamp(&keeper, 0);
     expect("one write at a time", mtr_log_take(&keeper, 0, &buffer, &lent) == MTR_EARLY &&
                                       mtr_log_take(&keeper, 0, &other, &lent) == MTR_EARLY && !other.full);
-    expect("the bytes are as before", lent.length == length && memcmp(lent.at, file, length) == 0);
+    expect("the bytes are as before", lent.length == 16 + length && memcmp(lent.at + 12, file, length) == 0);
     expect("the next ones", mtr_log_synced(&keeper, 0) == MTR_DONE &&
-                                mtr_log_take(&keeper, 0, &buffer, &lent) == MTR_DONE && lent.length == 33);
+                                mtr_log_take(&keeper, 0, &buffer, &lent) == MTR_DONE && lent.length == 16 + 33);
+    mtr_free(&buffer);
+    mtr_free(&keeper);
+    expect("all is freed", blocks == 0);
+}
+
+/* A log that holds more than a block has room for takes no record until they are taken. */
+static void test_early(void) {
+    static const uint8_t value[65535];
+    mtr_place keeper = example_keeper(), buffer = {0};
+    mtr_lent lent = {NULL, 0};
+    mtr_column columns[63];
+    uint64_t stamp = 0;
+    unsigned i, puts = 0;
+    for (i = 0; i < 63; i++) columns[i] = (mtr_column){(uint8_t)i, {value, sizeof value}};
+    while (puts < 9 && mtr_log_put(&keeper, 0, text("a"), 1, columns, 63, &stamp) == MTR_DONE) puts++;
+    expect("two long records", puts == 2 && stamp == 3);
+    expect("a put is early", mtr_log_put(&keeper, 0, text("a"), 1, columns, 1, &stamp) == MTR_EARLY && stamp == 3);
+    expect("so is a mark", mtr_log_mark(&keeper, 0) == MTR_EARLY);
+    expect("a block of both", mtr_log_take(&keeper, 0, &buffer, &lent) == MTR_DONE && lent.length > 2 * 63 * sizeof value);
+    expect("then it takes one", mtr_log_mark(&keeper, 0) == MTR_DONE);
     mtr_free(&buffer);
     mtr_free(&keeper);
     expect("all is freed", blocks == 0);
@@ -642,24 +722,31 @@ static void test_segments(void) {
     expect("all is freed", blocks == 0);
 }
 
-/* A keeper goes on with the log that an earlier one left. */
-static void test_restart(void) {
+/* A keeper goes on with the log of this format that an earlier one left. */
+static void test_restart(uint32_t format) {
     mtr_place keeper = {0}, store = {0};
     mtr_column column = {0, {text("x"), 1}};
     mtr_resumed resumed;
     mtr_fault fault = {0};
-    uint8_t out[128];
-    uint32_t checkpoint = 0;
+    uint8_t out[256], body[50];
+    uint32_t checkpoint = 0, mark = 0;
     uint64_t begin = 0;
     size_t count = 0, number = 9;
     length = 0;
-    append(mtr_segment_header(0, 0, 0, rest(), room(), &count), &count, 20);
-    append(mtr_put(3, 2, 2, text("a"), 1, &column, 1, rest(), room(), &count), &count, 33);
-    append(mtr_mark(3, rest(), room(), &count), &count, 17);
+    if (format == 3) {
+        append(mtr_segment_header(0, 0, 0, rest(), room(), &count), &count, 20);
+        append(mtr_put(3, 2, 2, text("a"), 1, &column, 1, rest(), room(), &count), &count, 33);
+        append(mtr_mark(3, rest(), room(), &count), &count, 17);
+    } else {
+        append(mtr_log_header_4(7, 0, 0, 1, 0, rest(), room(), &count, &mark), &count, 44);
+        expect("a body", mtr_put(4, 2, 2, text("a"), 1, &column, 1, body, sizeof body, &count) == MTR_DONE && count == 33 &&
+                             mtr_mark(3, body + 33, 17, &count) == MTR_DONE);
+        append(mtr_seal(mark, body, sizeof body, rest(), room(), &count), &count, 66);
+    }
     expect("a store", add_bytes(&store, 0, file, length, 64) == MTR_DONE && mtr_recover(&store, &fault) == MTR_DONE);
-    expect("it goes on", mtr_keeper_resume(&keeper, &store, 4) == MTR_DONE &&
-                             mtr_keeper_resume(&keeper, &store, 4) == MTR_WRONG);
-    expect("what replaces the log", mtr_resume_log(file, length, 3, &resumed, out, sizeof out, &count) == MTR_DONE);
+    expect("it goes on", mtr_keeper_resume(&keeper, &store, 4, 9) == MTR_DONE &&
+                             mtr_keeper_resume(&keeper, &store, 4, 9) == MTR_WRONG);
+    expect("what replaces the log", mtr_resume_log(file, length, 3, 8, &resumed, out, sizeof out, &count) == MTR_DONE);
     expect("no log", mtr_keeper_add(&keeper, text("x"), 1, &number) == MTR_WRONG && number == 9);
     expect("its log", mtr_keeper_add(&keeper, out, count, &number) == MTR_DONE && number == 0);
     expect("only once", mtr_keeper_add(&keeper, out, count, &number) == MTR_WRONG);
@@ -693,7 +780,7 @@ static void test_words(void) {
     fault.what = 1;
     expect("no record's", mtr_fault_text(&fault, out, sizeof out, &count) == MTR_WRONG);
     mtr_version(&versions);
-    expect("versions", versions.library == 3 && versions.log_format == 3 && versions.part_format == 2);
+    expect("versions", versions.library == 3 && versions.log_format == 4 && versions.part_format == 4);
 }
 
 static int is_fault(const mtr_fault *fault, uint32_t kind, uint32_t what, uint64_t index, uint64_t record) {
@@ -806,7 +893,7 @@ static uint32_t allocate(unsigned call, mtr_place *store, mtr_place *other) {
     case 1:
         return mtr_share(store, other);
     case 2:
-        return mtr_resume_log(examples[1].bytes, examples[1].length, 40, &resumed, out, sizeof out, &count);
+        return mtr_resume_log(examples[1].bytes, examples[1].length, 40, 8, &resumed, out, sizeof out, &count);
     default:
         return mtr_fault_text(&fault, out, sizeof out, &count);
     }
@@ -837,6 +924,7 @@ int main(int argc, char **argv) {
     test_log();
     test_part();
     test_others();
+    test_blocks();
     test_refusals();
     test_formats();
     test_memory();
@@ -852,10 +940,13 @@ int main(int argc, char **argv) {
     test_dump_on();
     test_share();
     test_resume();
+    test_resume_blocks();
     test_keeper();
     test_take();
+    test_early();
     test_segments();
-    test_restart();
+    test_restart(3);
+    test_restart(4);
     test_words();
     test_faults();
     test_add_memory();

@@ -153,7 +153,7 @@ static bool create(mtr_place *keeper, size_t log) {
 /* Begins a keeper of a log for each writer, and lends them. */
 static bool lend_logs(mtr_place *keeper) {
     size_t log = 0;
-    bool is_done = mtr_keeper_begin(keeper) == MTR_DONE && create(keeper, 0);
+    bool is_done = mtr_keeper_begin(keeper, 7) == MTR_DONE && create(keeper, 0);
     while (is_done && log + 1 < THREADS)
         is_done = mtr_log_begin(keeper, &log) == MTR_DONE && create(keeper, log);
     is_done = is_done && mtr_keeper_lend(keeper) == MTR_DONE;

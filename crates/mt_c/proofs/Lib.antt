@@ -1,6 +1,5 @@
 mod Adds
 pub mod Dumps
-mod Ends
 mod JobLemmas
 mod Lasts
 pub mod Pairs

@@ -42,6 +42,11 @@ abbrev pub IsFirst : Held → Type 0
 IsFirst (held.First first) = Unit {0}
 IsFirst other = ⊥
 
+-- the place holds it, with this new file
+abbrev pub HoldsFirst : NewFile → Option Held → Type 0
+HoldsFirst new (Some (held.First first)) = first.new ≡ new
+HoldsFirst new place = ⊥
+
 -- the place holds the logs of a keeper that goes on, for which P is true
 abbrev pub HoldsRestart : (Keeping → Type 0) → Option Held → Type 0
 HoldsRestart P (Some (held.Restart restart)) = P restart
@@ -56,6 +61,7 @@ abbrev pub writer_status : WriterFault → ℕ
 writer_status writer_faults.Failed = FAILED
 writer_status writer_faults.Ended = FULL
 writer_status writer_faults.Full = FULL
+writer_status writer_faults.Untaken = EARLY
 writer_status writer_faults.Version = WRONG
 writer_status writer_faults.Key = WRONG
 writer_status writer_faults.Columns = WRONG

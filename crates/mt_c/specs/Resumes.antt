@@ -1,24 +1,19 @@
 -- What replaces a log if a server resumes, as C is told it.
-use Rattle.std.specs.Prelude.{◌≡◌, ◌≢◌, ◌↔◌, ℕ, List, ◌++◌, IsTrue}
-use Rattle.mt_words.specs.Built.{mark_of}
-use Rattle.mt_record.specs.Spelling.{spelling}
+use Rattle.std.specs.Prelude.{◌≡◌, ◌≢◌, ◌↔◌, ◌⊎◌, ℕ, List, IsTrue}
+use Rattle.mt_record.specs.Opening.{IsSealed}
 use Rattle.mt_record.specs.Logs.{LogReading, IsReading, count_of}
-use Rattle.mt_record.specs.Resuming.{greatest_timestamp, updates_past, IsResumed}
+use Rattle.mt_record.specs.Resuming.{is_ended, updates_past, resumed, Replaces}
 use Rattle.mt_c.specs.declared.resuming.Resumed.{Resumed}
 use Rattle.mt_c.specs.Buffers.{Writes}
-use Rattle.mt_c.specs.Formats.{log_number}
+use Rattle.mt_c.specs.Formats.{IsFormatOf}
 
--- the bytes end with these
-pub record EndsWith (bytes end : List ℕ) : Type 0 where
-  pub front : List ℕ
-  pub is : bytes ≡ front ++ end
-
--- what a function with this status did that writes to a buffer what replaces the log after a recovery with this cutoff
-pub record Resumes (cutoff : ℕ) (log : List ℕ) (told : Resumed) (before after : List ℕ) (count status : ℕ) : Type 0 where
+-- What a function with this status did that writes to a buffer what replaces the log after a recovery with this cutoff. A log
+-- of format 4 counts as changed: its blocks begin anew, with the salt.
+pub record Resumes (cutoff salt : ℕ) (log : List ℕ) (told : Resumed) (before after : List ℕ) (count status : ℕ) : Type 0 where
   pub bytes : List ℕ
-  pub is_resumed : IsResumed cutoff log bytes
+  pub is_resumed : Replaces cutoff salt log bytes
   pub dropped : (reading : LogReading) → IsReading log reading → told.dropped ≡ count_of (updates_past cutoff reading.records)
-  pub format : (reading : LogReading) → IsReading log reading → told.format ≡ log_number reading.head
-  pub changed : IsTrue told.changed ↔ (bytes ≢ log)
-  pub ended : IsTrue told.ended ↔ EndsWith bytes (spelling (mark_of greatest_timestamp))
+  pub format : (reading : LogReading) → IsReading log reading → IsFormatOf log reading.head told.format
+  pub changed : IsTrue told.changed ↔ (IsSealed log ⊎ (bytes ≢ log))
+  pub ended : (reading : LogReading) → IsReading log reading → told.ended ≡ is_ended (resumed cutoff reading).records
   pub written : Writes bytes before after count status

@@ -1,5 +1,5 @@
 //! Writes to buffers of the caller.
-ghost use Rattle.std.specs.Prelude.{◌≡◌, ◌≢◌, ◌⊎◌, ◌++◌};
+ghost use Rattle.std.specs.Prelude.{◌≡◌, ◌≢◌, ◌≤◌, ◌+◌, ◌^◌, ◌⊎◌, ◌++◌, length};
 ghost use Rattle.mt_c.specs.declared.status.TheConstants.{DONE, MEMORY, SHORT, WRONG};
 ghost use Rattle.mt_c.specs.Buffers.{Writes};
 
@@ -29,6 +29,7 @@ pub fn write_joined(
 ) -> u32
     ensures written { result ≢ MEMORY → Writes (first.now ++ (second.now ++ third.now)) out.old out.new count.new result }
     ensures kept { result ≢ DONE → out.new ≡ out.old }
+    ensures memory { result ≡ MEMORY → 2 ^ 64 ≤ length first.now + (length second.now + length third.now) }
     ensures certain { (result ≡ DONE) ⊎ ((result ≡ SHORT) ⊎ (result ≡ MEMORY)) }
 {
     let Some(front) = first.len().checked_add(second.len()) else {

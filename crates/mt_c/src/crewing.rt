@@ -1,16 +1,19 @@
 //! Logs of a keeper, lent to threads of C, which append without a lock.
-ghost use Rattle.std.specs.Prelude.{◌≡◌, ◌≢◌, ◌↔◌, ◌∷◌, [], List, None, Some};
+ghost use Rattle.std.specs.Prelude.{◌≡◌, ◌≢◌, ◌↔◌, ◌∷◌, [], List, None, Some, IsNone, IfSome};
 ghost use Rattle.std.specs.List.{AllZip};
 ghost use Rattle.mt_laws.specs.Writing.{Server};
 ghost use Rattle.mt_keeper.specs.Keeping.{Keeping, Holds as IsHeldBy};
 ghost use Rattle.mt_keeper.specs.Crews.{Deed, HasDone, HaveOneOrder};
+ghost use Rattle.mt_keeper.specs.Refusals.{LendsNone};
 ghost use Rattle.mt_c.specs.Borrowing.{BorrowerView};
 ghost use Rattle.mt_c.specs.Holding.{Holds};
-ghost use Rattle.mt_c.specs.Keepers.{keeper_answers, HoldsKeeper, IsKeeper, HoldsLoan, HoldsBorrower, IsAnyLoan, IsHired, HoldsNext};
-ghost use Rattle.mt_c.specs.Loans.{HasAll, IsFresh, LoanView, joined};
+ghost use Rattle.mt_c.specs.Keepers.{keeper_answers, HoldsKeeper, IsRefusal, HoldsLoan, HoldsBorrower, IsAnyLoan, IsHired, HoldsNext};
+ghost use Rattle.mt_c.specs.Loans.{Awaits, HasAll, IsFresh, LoanView, joined};
 ghost use Rattle.mt_c.specs.Statuses.{IsOneOf, IsRefusedUnless};
+ghost use Rattle.mt_c.specs.declared.held.Held.TheVariants as held;
 ghost use Rattle.mt_c.specs.declared.status.TheConstants.{DONE, MEMORY, WRONG, ABSENT, EARLY};
 
+use crate::borrower::Borrower;
 use crate::held::Held;
 use crate::loan::Loan;
 use crate::place::Place;
@@ -26,7 +29,7 @@ pub extern "C" fn mtr_keeper_lend(alloc: Global, keeper: &mut Place) -> u32
     ensures done { (k : Keeping) → HoldsKeeper (λ held. held ≡ k) keeper.old.handle.value → result ≡ DONE → HoldsLoan (IsFresh k) keeper.new.handle.value }
     ensures kept { result ≢ DONE → keeper.new.handle.value ≡ keeper.old.handle.value }
     ensures certain { IsOneOf keeper_answers result }
-    ensures wrong { (Holds IsKeeper keeper.old.handle.value → ⊥) → result ≡ WRONG }
+    ensures why { result ≢ DONE → IsRefusal LendsNone keeper.old.handle.value result }
 {
     let Some(held) = keeper.held_mut() else {
         return WRONG;
@@ -41,7 +44,7 @@ fn lend_logs(alloc: Global, held: Held) -> (Held, u32)
     ensures done { (k : Keeping) → HoldsKeeper (λ held. held ≡ k) (Some held) → result.1 ≡ DONE → HoldsLoan (IsFresh k) (Some result.0) }
     ensures kept { result.1 ≢ DONE → result.0 ≡ held }
     ensures certain { IsOneOf keeper_answers result.1 }
-    ensures wrong { (IsKeeper held → ⊥) → result.1 ≡ WRONG }
+    ensures why { result.1 ≢ DONE → IsRefusal LendsNone (Some held) result.1 }
 {
     match held {
         Held::Keeper(keeping) => match Loan::begin(alloc, keeping) {
@@ -114,14 +117,29 @@ pub extern "C" fn mtr_crew_join(alloc: Global, crew: &mut Place, worker: &mut Pl
     let Held::Loan(lending) = held else {
         return WRONG;
     };
-    let Some(Held::Borrower(back)) = worker.take_if(
-        alloc,
-        |held| matches!(held, Held::Borrower(back) if lending.awaits(back)),
-    ) else {
+    let Some(back) = take_awaited(alloc, lending, worker) else {
         return WRONG;
     };
     lending.join(back);
     DONE
+}
+
+/// Takes out the log for which the crew waits, and leaves the place empty. None: the place holds something else, and is as
+/// before.
+fn take_awaited(alloc: Global, lending: &Loan, worker: &mut Place) -> Option<Borrower>
+    ensures taken { IfSome result (λ back. (worker.old.handle.value ≡ Some (held.Borrower back)) × Awaits lending.now back) }
+    ensures empty { IfSome result (λ back. worker.new.handle.value ≡ None) }
+    ensures kept { IsNone result → worker.new.handle.value ≡ worker.old.handle.value }
+    ensures refused { IsNone result → HoldsBorrower (Awaits lending.now) worker.old.handle.value → ⊥ }
+{
+    let awaited = worker.take_if(
+        alloc,
+        |held| matches!(held, Held::Borrower(back) if lending.awaits(back)),
+    );
+    match awaited {
+        Some(Held::Borrower(back)) => Some(back),
+        _ => None,
+    }
 }
 
 /// Puts the keeper in the place of its crew. `EARLY`: a log is handed out. `WRONG`: the place does not hold a crew.

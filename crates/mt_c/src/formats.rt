@@ -1,6 +1,6 @@
 //! Formats of logs and parts by their numbers, as C names them.
 ghost use Rattle.std.specs.Prelude.{◌≡◌};
-ghost use Rattle.mt_c.specs.Formats.{format_of, records_of, log_number};
+ghost use Rattle.mt_c.specs.Formats.{format_of, records_of, entries_of, log_number};
 
 use mt_record::Head;
 use mt_words::Format;
@@ -21,8 +21,18 @@ pub fn records_of(number: u32) -> Option<Format>
     ensures { result ≡ records_of number }
 {
     match number {
-        // A segment.
-        3 => Some(Format::Two),
+        // Segments.
+        3 | 4 => Some(Format::Two),
+        _ => format_of(number),
+    }
+}
+
+/// Returns the format of the entries of a part of this format, or None if there is no such part.
+pub fn entries_of(number: u32) -> Option<Format>
+    ensures { result ≡ entries_of number }
+{
+    match number {
+        4 => Some(Format::Two),
         _ => format_of(number),
     }
 }

@@ -1,18 +1,17 @@
 //! The keeper of a server's logs: its first log, further ones, and what may be acknowledged.
 ghost use Rattle.std.specs.Prelude.{◌≡◌, ◌≢◌, ◌⊎◌, ◌<◌, ◌∷◌, [], None, IsTrue, Contains, length};
-ghost use Rattle.mt_words.specs.Built.{mark_of};
 ghost use Rattle.mt_words.specs.declared.update.Update.{Update};
-ghost use Rattle.mt_record.specs.Encoding.{segment_head};
-ghost use Rattle.mt_record.specs.Logs.{log_bytes};
 ghost use Rattle.mt_writer.specs.Journals.{NewFile};
 ghost use Rattle.mt_laws.specs.Writing.{Server, Called, AllReached, files_there, updates_of};
 ghost use Rattle.mt_keeper.specs.Keeping.{Keeping, numbered, Holds as IsHeldBy};
 ghost use Rattle.mt_keeper.specs.declared.keeper.Stage.TheVariants.{Coming};
 ghost use Rattle.mt_keeper.specs.Calling.{with_new_log, with_created, acknowledged, first};
+ghost use Rattle.mt_keeper.specs.Filing.{BeginsFile, next_salt};
 ghost use Rattle.mt_keeper.specs.Refusals.{IsAt, HasFailed, IsNotComing, BeginsNone};
 ghost use Rattle.mt_c.specs.Buffers.{Writes};
+ghost use Rattle.mt_c.specs.Formats.{log_header_4};
 ghost use Rattle.mt_c.specs.Holding.{Holds};
-ghost use Rattle.mt_c.specs.Keepers.{keeper_answers, HoldsKeeper, HoldsServer, HoldsAfter, HoldsComing, IsKeeper, IsFirst, IsRefusal};
+ghost use Rattle.mt_c.specs.Keepers.{keeper_answers, HoldsKeeper, HoldsServer, HoldsAfter, HoldsComing, HoldsFirst, IsKeeper, IsFirst, IsRefusal};
 ghost use Rattle.mt_c.specs.Statuses.{IsOneOf, IsRefusedUnless};
 ghost use Rattle.mt_c.specs.declared.status.TheConstants.{DONE, MEMORY, WRONG, SHORT};
 
@@ -25,10 +24,12 @@ use mt_keeper::First;
 use std::alloc::Global;
 use std::mem;
 
-/// Puts the keeper of an empty folder, whose log 0 is to be created, into the empty place. `WRONG`: the place is not empty.
+/// Puts the keeper of an empty folder, whose log 0 is to be created, into the empty place. `salt` is a random number, the salt
+/// of that log. `WRONG`: the place is not empty.
 #[unsafe(no_mangle)]
-pub extern "C" fn mtr_keeper_begin(alloc: Global, keeper: &mut Place) -> u32
+pub extern "C" fn mtr_keeper_begin(alloc: Global, keeper: &mut Place, salt: u64) -> u32
     ensures done { result ≡ DONE → Holds IsFirst keeper.new.handle.value }
+    ensures header { (new : NewFile) → HoldsFirst new keeper.new.handle.value → result ≡ DONE → new.header ≡ log_header_4 salt 0 0 1 0 }
     ensures kept { result ≢ DONE → keeper.new.handle.value ≡ keeper.old.handle.value }
     ensures certain { IsOneOf (DONE ∷ MEMORY ∷ WRONG ∷ []) result }
     ensures refused { IsRefusedUnless (keeper.old.handle.value ≡ None) result }
@@ -36,7 +37,7 @@ pub extern "C" fn mtr_keeper_begin(alloc: Global, keeper: &mut Place) -> u32
     if !keeper.is_empty() {
         return WRONG;
     }
-    match First::begin(alloc) {
+    match First::begin(alloc, salt) {
         Ok(first) => keeper.begin(alloc, Held::First(first)),
         Err(_) => MEMORY,
     }
@@ -47,6 +48,7 @@ pub extern "C" fn mtr_keeper_begin(alloc: Global, keeper: &mut Place) -> u32
 pub extern "C" fn mtr_log_begin(alloc: Global, keeper: &mut Place, log: &mut usize) -> u32
     ensures done { (s : Server) (k : Keeping) → HoldsServer s keeper.old.handle.value → HoldsKeeper (λ held. held ≡ k) keeper.old.handle.value → result ≡ DONE →
         (log.new ≡ length (numbered s)) × HoldsAfter s (with_new_log s k.workers) keeper.new.handle.value }
+    ensures file { (k : Keeping) → HoldsKeeper (λ held. held ≡ k) keeper.old.handle.value → result ≡ DONE → HoldsKeeper (λ after. BeginsFile k after log.new) keeper.new.handle.value }
     ensures kept { result ≢ DONE → keeper.new.handle.value ≡ keeper.old.handle.value }
     ensures untold { result ≢ DONE → log.new ≡ log.old }
     ensures why { result ≢ DONE → IsRefusal BeginsNone keeper.old.handle.value result }
@@ -78,7 +80,7 @@ pub extern "C" fn mtr_log_bytes(
     count: &mut usize,
 ) -> u32
     ensures same { keeper.new.handle.value ≡ keeper.old.handle.value }
-    ensures first { Holds IsFirst keeper.old.handle.value → log ≡ 0 → Writes (log_bytes (segment_head 0 0 0) (mark_of 1 ∷ [])) out.old out.new count.new result }
+    ensures first { (new : NewFile) → HoldsFirst new keeper.old.handle.value → log ≡ 0 → Writes new.bytes out.old out.new count.new result }
     ensures written { (k : Keeping) (new : NewFile) → HoldsKeeper (λ held. held ≡ k) keeper.old.handle.value → IsAt k log (Coming new) →
         Writes new.bytes out.old out.new count.new result }
     ensures kept { result ≢ DONE → out.new ≡ out.old }
@@ -104,6 +106,7 @@ pub extern "C" fn mtr_log_bytes(
 #[unsafe(no_mangle)]
 pub extern "C" fn mtr_log_created(keeper: &mut Place, log: usize) -> u32
     ensures first { Holds IsFirst keeper.old.handle.value → result ≡ DONE → Called first × HoldsKeeper (λ k. IsHeldBy k first) keeper.new.handle.value }
+    ensures salt { (new : NewFile) → HoldsFirst new keeper.old.handle.value → result ≡ DONE → HoldsKeeper (λ k. k.salt ≡ next_salt new.header.salt) keeper.new.handle.value }
     ensures done { (s : Server) → HoldsServer s keeper.old.handle.value → result ≡ DONE → HoldsAfter s (with_created s log) keeper.new.handle.value }
     ensures kept { result ≢ DONE → keeper.new.handle.value ≡ keeper.old.handle.value }
     ensures why { result ≢ DONE → Holds IsKeeper keeper.old.handle.value →

@@ -12,6 +12,7 @@
 #![tactic(auto)]
 
 mod bare;
+mod blocks;
 mod borrower;
 mod buffer;
 mod checkpoints;

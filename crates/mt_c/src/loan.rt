@@ -5,6 +5,7 @@ ghost use Rattle.std.specs.Arc.{arc_value};
 ghost use Rattle.mt_laws.specs.Writing.{Server};
 ghost use Rattle.mt_keeper.specs.Keeping.{Holds};
 ghost use Rattle.mt_keeper.specs.Crews.{Deed, HasDone, HaveOneOrder};
+ghost use Rattle.mt_keeper.specs.Refusals.{LendsNone};
 ghost use Rattle.mt_c.specs.Loans.{Awaits, HasAll, Hires, IsFresh, joined, crew_in};
 
 use crate::borrower::Borrower;
@@ -90,6 +91,7 @@ impl Loan {
     pub fn begin(alloc: Global, keeper: Keeper) -> Result<Loan, (KeeperFault, Keeper)>
         ensures fresh { IfOk result (IsFresh keeper) }
         ensures err { IfErr result (λ err. err.1 ≡ keeper) }
+        ensures fault { IfErr result (λ err. LendsNone keeper err.0) }
     {
         match keeper.lend(alloc) {
             Ok((crew, logs)) => {

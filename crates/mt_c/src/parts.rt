@@ -9,7 +9,7 @@ ghost use Rattle.mt_c.specs.Formats.{format_of, FitsPart};
 ghost use Rattle.mt_c.specs.Statuses.{IsOneOf, IsRefusedUnless};
 
 use crate::buffer::write_bytes;
-use crate::formats::format_of;
+use crate::formats::{entries_of, format_of};
 use crate::status::{MEMORY, WRONG};
 use mt_record::{
     Given, GivenChange, GivenKind, PartHead, encode_given_entry, encode_part_footer,
@@ -70,7 +70,7 @@ pub extern "C" fn mtr_entry(
     ensures refused { IsRefusedUnless (FitsPart format (entry_of version key.now (map column_of columns.now))) result }
     ensures untold { result ≢ DONE → result ≢ SHORT → count.new ≡ count.old }
 {
-    let Some(format) = format_of(format) else {
+    let Some(format) = entries_of(format) else {
         return WRONG;
     };
     let entry = GivenChange {

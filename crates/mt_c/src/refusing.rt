@@ -30,6 +30,7 @@ fn writer_status(fault: WriterFault) -> u32
     match fault {
         WriterFault::Failed => FAILED,
         WriterFault::Ended | WriterFault::Full => FULL,
+        WriterFault::Untaken => EARLY,
         WriterFault::Version | WriterFault::Key | WriterFault::Columns => WRONG,
         WriterFault::Memory => MEMORY,
     }

@@ -18,17 +18,18 @@ use std::alloc::Global;
 use std::mem;
 
 /// Puts a keeper that goes on from this store, and takes its logs, into the empty place. `number` is the greatest number of
-/// a part in the folder, or 0. `WRONG`: `keeper` is not empty, or `store` does not hold a store.
+/// a part in the folder, or 0. `salt` is a random number. `WRONG`: `keeper` is not empty, or `store` does not hold a store.
 #[unsafe(no_mangle)]
 pub extern "C" fn mtr_keeper_resume(
     alloc: Global,
     keeper: &mut Place,
     store: &mut Place,
     number: u32,
+    salt: u64,
 ) -> u32
     ensures same { store.new.handle.value ≡ store.old.handle.value }
     ensures done { (outcome : Outcome) → HoldsOutcome outcome store.old.handle.value → result ≡ DONE →
-        HoldsRestart (λ r. r ≡ without_logs outcome.report.cutoff outcome.report.begin number) keeper.new.handle.value }
+        HoldsRestart (λ r. r ≡ without_logs outcome.report.cutoff outcome.report.begin number salt) keeper.new.handle.value }
     ensures kept { result ≢ DONE → keeper.new.handle.value ≡ keeper.old.handle.value }
     ensures certain { IsOneOf (DONE ∷ MEMORY ∷ WRONG ∷ []) result }
     ensures refused { IsRefusedUnless (Holds IsStore store.old.handle.value × (keeper.old.handle.value ≡ None)) result }
@@ -40,7 +41,7 @@ pub extern "C" fn mtr_keeper_resume(
         return WRONG;
     }
     let report = recovered.report();
-    let restart = Restart::new(alloc, report.cutoff, report.begin, number);
+    let restart = Restart::new(alloc, report.cutoff, report.begin, number, salt);
     keeper.begin(alloc, Held::Restart(restart))
 }
 
@@ -80,8 +81,8 @@ pub extern "C" fn mtr_keeper_add(
 #[unsafe(no_mangle)]
 pub extern "C" fn mtr_keeper_resumed(keeper: &mut Place) -> u32
     ensures done { result ≡ DONE → Holds IsKeeper keeper.new.handle.value }
-    ensures restarts { (before : Keeping) (s : Server) (cutoff begin number : ℕ) (files : List (List ℕ)) → HoldsRestart (λ r. r ≡ before) keeper.old.handle.value → Called s →
-        (of : AreFilesAfter s cutoff begin files) → AreAdded (without_logs cutoff begin number) files before → result ≡ DONE →
+    ensures restarts { (before : Keeping) (s : Server) (cutoff begin number salt : ℕ) (files : List (List ℕ)) → HoldsRestart (λ r. r ≡ before) keeper.old.handle.value → Called s →
+        (of : AreFilesAfter s cutoff begin files) → AreAdded (without_logs cutoff begin number salt) files before → result ≡ DONE →
         HoldsKeeper (Restarts s cutoff begin files of) keeper.new.handle.value }
     ensures kept { result ≢ DONE → keeper.new.handle.value ≡ keeper.old.handle.value }
     ensures certain { IsOneOf (DONE ∷ WRONG ∷ []) result }

@@ -1,19 +1,17 @@
 //! What replaces a log if a server resumes.
-ghost use Rattle.std.specs.Prelude.{◌≡◌, ◌≢◌, ◌↔◌, ◌∷◌, ◌++◌, [], List, ℕ, IsTrue, IfOk, IfSome, IfNone};
-ghost use Rattle.mt_words.specs.Built.{mark_of};
+ghost use Rattle.std.specs.Prelude.{◌≡◌, ◌≢◌, ◌∷◌, []};
 ghost use Rattle.mt_record.specs.declared.read.FeedFault.{FeedFault};
-ghost use Rattle.mt_record.specs.LogFaults.{IsTextFault};
-ghost use Rattle.mt_record.specs.Resuming.{greatest_timestamp};
-ghost use Rattle.mt_record.specs.Spelling.{spelling};
+ghost use Rattle.mt_record.specs.LogFaults.{IsLogFault};
+ghost use Rattle.mt_record.specs.Logs.{LogReading, IsReading};
 ghost use Rattle.mt_c.specs.declared.status.TheConstants.{DONE, MEMORY, SHORT, FAULT};
-ghost use Rattle.mt_c.specs.Resumes.{EndsWith, Resumes};
+ghost use Rattle.mt_c.specs.Formats.{IsFormatOf};
+ghost use Rattle.mt_c.specs.Resumes.{Resumes};
 ghost use Rattle.mt_c.specs.Statuses.{IsOneOf};
 
 use crate::buffer::write_joined;
 use crate::formats::log_number;
 use crate::status::{FAULT, MEMORY};
-use mt_record::{FeedFault, encode_record, header_at, resume_log};
-use mt_words::{Memory, Record};
+use mt_record::{FeedFault, header_at, is_sealed, resume_log};
 use std::alloc::Global;
 
 /// What becomes of a log if a server resumes, as C sees it.
@@ -24,47 +22,42 @@ pub struct Resumed {
     pub dropped: u64,
     /// The format of the log.
     pub format: u32,
-    /// Whether the bytes differ from those of the log.
+    /// Whether the bytes differ from those of the log. Those of a log of format 4 always count as changed.
     pub changed: bool,
     /// Whether they end with the mark that ends a log.
     pub ended: bool,
 }
 
 /// Writes what replaces the log, if a server resumes after a recovery with this cutoff, to the beginning of `out`, and its
-/// length to `count`. `FAULT`: the bytes are no log
-/// of formats 1 to 3.
+/// length to `count`. It has the format of the log, and of format 4 this salt, a number that no other file has. `FAULT`: the
+/// bytes are no log.
 #[unsafe(no_mangle)]
 pub extern "C" fn mtr_resume_log(
     alloc: Global,
     log: &[u8],
     cutoff: u64,
+    salt: u64,
     resumed: &mut Resumed,
     out: &mut [u8],
     count: &mut usize,
 ) -> u32
-    ensures written { result ≢ MEMORY → result ≢ FAULT → Resumes cutoff log.now resumed.new out.old out.new count.new result }
-    ensures fault { result ≡ FAULT → (fault : FeedFault) × IsTextFault log.now fault }
+    ensures written { result ≢ MEMORY → result ≢ FAULT → Resumes cutoff salt log.now resumed.new out.old out.new count.new result }
+    ensures fault { result ≡ FAULT → (fault : FeedFault) × IsLogFault log.now fault }
     ensures untold { result ≢ DONE → result ≢ SHORT → resumed.new ≡ resumed.old }
     ensures kept { result ≢ DONE → out.new ≡ out.old }
     ensures certain { IsOneOf (DONE ∷ MEMORY ∷ SHORT ∷ FAULT ∷ []) result }
 {
-    let Some((head, _)) = header_at(log) else {
-        return FAULT;
-    };
-    let Ok(end) = end_of_logs(alloc) else {
-        return MEMORY;
-    };
-    match resume_log(alloc, log, cutoff) {
+    match resume_log(alloc, log, cutoff, salt) {
         Ok(new) => {
-            let status = write_joined(&new.header, new.records, &new.marks, out, count);
+            let status = write_joined(&new.front, new.records, &new.marks, out, count);
             if status == MEMORY {
                 return MEMORY;
             }
             *resumed = Resumed {
                 dropped: new.dropped,
-                format: log_number(head),
+                format: format_in(log),
                 changed: new.changed,
-                ended: end_with(&new.header, new.records, &new.marks, &end),
+                ended: new.ended,
             };
             status
         }
@@ -73,39 +66,15 @@ pub extern "C" fn mtr_resume_log(
     }
 }
 
-/// Returns the mark that ends a log. Err: out of memory.
-fn end_of_logs(alloc: Global) -> Result<Vec<u8>, Memory>
-    ensures { IfOk result (λ end. end.items ≡ spelling (mark_of greatest_timestamp)) }
+/// Returns the number of the format of the log, or 0 if the bytes are none.
+fn format_in(log: &[u8]) -> u32
+    ensures { (reading : LogReading) → IsReading log.now reading → IsFormatOf log.now reading.head result }
 {
-    let mut end = Vec::new(alloc);
-    encode_record(&Record::mark(u64::MAX), &mut end)?;
-    Ok(end)
-}
-
-/// Returns whether these three pieces, one after the other, end with these bytes.
-fn end_with(first: &[u8], second: &[u8], third: &[u8], end: &[u8]) -> bool
-    ensures { IsTrue result ↔ EndsWith (first.now ++ (second.now ++ third.now)) end.now }
-{
-    let Some(end) = left_of(third, end) else {
-        return false;
-    };
-    let Some(end) = left_of(second, end) else {
-        return false;
-    };
-    match left_of(first, end) {
-        Some(end) => end.is_empty(),
-        None => false,
+    if is_sealed(log) {
+        return 4;
     }
-}
-
-/// Returns what must stand before the piece for both to end with these bytes, or None if nothing does.
-fn left_of<'a>(piece: &[u8], end: &'a [u8]) -> Option<&'a [u8]>
-    ensures some { IfSome result (λ left. (front : List ℕ) → EndsWith (front ++ piece.now) end.now ↔ EndsWith front left.now) }
-    ensures none { IfNone result ((front : List ℕ) → EndsWith (front ++ piece.now) end.now → ⊥) }
-{
-    let (left, last) = end.split_at(end.len().saturating_sub(piece.len()));
-    if !piece.ends_with(last) {
-        return None;
+    match header_at(log) {
+        Some((head, _)) => log_number(head),
+        None => 0,
     }
-    Some(left)
 }

@@ -15,10 +15,10 @@ use std::alloc::Global;
 const LIBRARY: u32 = 3;
 
 /// The greatest format of logs.
-const LOG_FORMAT: u32 = 3;
+const LOG_FORMAT: u32 = 4;
 
 /// The greatest format of parts.
-const PART_FORMAT: u32 = 2;
+const PART_FORMAT: u32 = 4;
 
 /// The versions of the library as C sees them.
 #[repr(C)]
@@ -35,7 +35,7 @@ pub struct Versions {
 /// Tells the versions of the library.
 #[unsafe(no_mangle)]
 pub extern "C" fn mtr_version(versions: &mut Versions)
-    ensures { versions.new ≡ record { library = 3; log_format = 3; part_format = 2 } }
+    ensures { versions.new ≡ record { library = 3; log_format = 4; part_format = 4 } }
 {
     *versions = Versions {
         library: LIBRARY,

@@ -1,10 +1,10 @@
 //! What a thread of C does with a log that it was lent.
-ghost use Rattle.std.specs.Prelude.{◌≡◌, ◌≢◌, ◌⊎◌, ◌++◌, ◌∷◌, [], List, ℕ, map, length, replicate};
+ghost use Rattle.std.specs.Prelude.{◌≡◌, ◌≢◌, ◌⊎◌, ◌++◌, ◌∷◌, [], List, ℕ, map, flat_map, length, replicate};
 ghost use Rattle.mt_words.specs.declared.update.Kind.TheVariants as kinds;
 ghost use Rattle.mt_record.specs.Given.{column_of};
-ghost use Rattle.mt_record.specs.Logs.{log_bytes};
-ghost use Rattle.mt_writer.specs.Files.{file_bytes};
-ghost use Rattle.mt_writer.specs.Journals.{Journal, Keeps, file_of, handed_out};
+ghost use Rattle.mt_record.specs.Spelling.{spelling};
+ghost use Rattle.mt_writer.specs.Framing.{framed};
+ghost use Rattle.mt_writer.specs.Journals.{Journal, Keeps};
 ghost use Rattle.mt_keeper.specs.Crews.{CrewView, Deed, wrote, spent, marked, took, synced, looked, asked};
 ghost use Rattle.mt_keeper.specs.Refusals.{LentTakesNot, LentMarksNot, LentHasFailed, IsLentInFlight, IsNoLog};
 ghost use Rattle.mt_c.specs.Borrowing.{BorrowerView};
@@ -140,7 +140,7 @@ pub extern "C" fn mtr_worker_take(
     ensures done { (crew : CrewView) (number : ℕ) (deeds : List Deed) → HoldsDeeds crew number deeds worker.old.handle.value → result ≡ DONE →
         HoldsDeeds crew number (deeds ++ took ∷ []) worker.new.handle.value }
     ensures bytes { (b : BorrowerView) (j : Journal) → HoldsBorrower (λ held. held ≡ b) worker.old.handle.value → Keeps b.log.writer j → result ≡ DONE →
-        HoldsLent lent.new (λ bytes. log_bytes j.head (handed_out j) ++ bytes ≡ file_bytes (file_of j)) buffer.new.handle.value }
+        HoldsLent lent.new (λ bytes. bytes ≡ framed b.log.writer.mark (flat_map spelling j.held)) buffer.new.handle.value }
     ensures kept { result ≢ DONE → (worker.new.handle.value ≡ worker.old.handle.value) × (buffer.new.handle.value ≡ buffer.old.handle.value) }
     ensures untold { result ≢ DONE → lent.new ≡ lent.old }
     ensures why { (b : BorrowerView) → HoldsBorrower (λ held. held ≡ b) worker.old.handle.value → HoldsSomeBytes buffer.old.handle.value → result ≢ DONE → result ≢ MEMORY →

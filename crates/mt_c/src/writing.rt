@@ -1,15 +1,16 @@
 //! Records of a keeper's logs: appending them, taking them for a write, and noting that they are synced.
-ghost use Rattle.std.specs.Prelude.{◌≡◌, ◌≢◌, ◌⊎◌, ◌+◌, ◌++◌, Some, map, slice_get};
+ghost use Rattle.std.specs.Prelude.{◌≡◌, ◌≢◌, ◌⊎◌, ◌+◌, Some, map, flat_map, slice_get};
 ghost use Rattle.mt_words.specs.Built.{mark_of, put_of, remove_of, erase_of};
 ghost use Rattle.mt_words.specs.declared.update.Kind.TheVariants as kinds;
 ghost use Rattle.mt_record.specs.Given.{column_of};
-ghost use Rattle.mt_record.specs.Logs.{log_bytes};
-ghost use Rattle.mt_writer.specs.Files.{file_bytes};
-ghost use Rattle.mt_writer.specs.Journals.{Journal, file_of, handed_out};
+ghost use Rattle.mt_record.specs.Spelling.{spelling};
+ghost use Rattle.mt_writer.specs.Framing.{framed};
+ghost use Rattle.mt_writer.specs.Journals.{Journal, Writer};
 ghost use Rattle.mt_laws.specs.Writing.{writing, Server};
 ghost use Rattle.mt_keeper.specs.Keeping.{Keeping, numbered};
 ghost use Rattle.mt_keeper.specs.Calling.{appended, with_taken, with_synced};
-ghost use Rattle.mt_keeper.specs.Refusals.{HasFailed, IsNotWritten, TakesNot, NoMark, NoChange, IsInFlight};
+ghost use Rattle.mt_keeper.specs.declared.keeper.Stage.TheVariants.{Writing};
+ghost use Rattle.mt_keeper.specs.Refusals.{IsAt, HasFailed, IsNotWritten, TakesNot, NoMark, NoChange, IsInFlight};
 ghost use Rattle.mt_c.specs.Holding.{Holds};
 ghost use Rattle.mt_c.specs.Keepers.{keeper_answers, HoldsKeeper, HoldsServer, HoldsAfter, HoldsLent, HoldsSomeBytes, IsKeeper, IsRefusal};
 ghost use Rattle.mt_c.specs.Statuses.{IsOneOf};
@@ -150,8 +151,9 @@ pub extern "C" fn mtr_log_take(
     lent: &mut Lent,
 ) -> u32
     ensures done { (s : Server) → HoldsServer s keeper.old.handle.value → result ≡ DONE → HoldsAfter s (with_taken s log) keeper.new.handle.value }
-    ensures bytes { (s : Server) (j : Journal) → HoldsServer s keeper.old.handle.value → slice_get (numbered s) log ≡ Some (writing j) → result ≡ DONE →
-        HoldsLent lent.new (λ bytes. log_bytes j.head (handed_out j) ++ bytes ≡ file_bytes (file_of j)) buffer.new.handle.value }
+    ensures bytes { (s : Server) (k : Keeping) (j : Journal) (w : Writer) → HoldsServer s keeper.old.handle.value → HoldsKeeper (λ held. held ≡ k) keeper.old.handle.value →
+        slice_get (numbered s) log ≡ Some (writing j) → IsAt k log (Writing w) → result ≡ DONE →
+        HoldsLent lent.new (λ bytes. bytes ≡ framed w.mark (flat_map spelling j.held)) buffer.new.handle.value }
     ensures kept { result ≢ DONE → (keeper.new.handle.value ≡ keeper.old.handle.value) × (buffer.new.handle.value ≡ buffer.old.handle.value) }
     ensures untold { result ≢ DONE → lent.new ≡ lent.old }
     ensures why { (s : Server) → HoldsServer s keeper.old.handle.value → HoldsSomeBytes buffer.old.handle.value → result ≢ DONE → result ≢ MEMORY →

@@ -49,7 +49,7 @@ log_send : IsSend log.the_row
 log_send = search (sendable, crosses) depth 100 fits 20000
 
 part_send : IsSend part.the_row
-part_send = search (sendable, crosses) depth 40 fits 20000
+part_send = search (sendable, crosses) depth 100 fits 20000
 
 inputs_send : IsSend inputs.the_row
 inputs_send = search (sendable, crosses, log_send, part_send) depth 20 fits 20000
