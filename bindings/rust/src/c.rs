@@ -143,6 +143,7 @@ extern "C" {
         log: *const u8,
         length: usize,
         cutoff: u64,
+        salt: u64,
         resumed: *mut RawResumed,
         out: *mut u8,
         room: usize,
@@ -207,6 +208,29 @@ extern "C" {
         room: usize,
         count: *mut usize,
     ) -> u32;
+    pub fn mtr_log_header_4(
+        salt: u64,
+        worker: u32,
+        segment: u32,
+        workers: u32,
+        from: u64,
+        out: *mut u8,
+        room: usize,
+        count: *mut usize,
+        mark: *mut u32,
+    ) -> u32;
+    pub fn mtr_part_header_4(
+        salt: u64,
+        number: u32,
+        begin: u64,
+        part: u16,
+        parts: u16,
+        out: *mut u8,
+        room: usize,
+        count: *mut usize,
+        mark: *mut u32,
+    ) -> u32;
+    pub fn mtr_seal(mark: u32, body: *const u8, length: usize, out: *mut u8, room: usize, count: *mut usize) -> u32;
     pub fn mtr_mark(time: u64, out: *mut u8, room: usize, count: *mut usize) -> u32;
     pub fn mtr_put(
         format: u32,
@@ -264,10 +288,10 @@ extern "C" {
         count: *mut usize,
     ) -> u32;
     pub fn mtr_part_footer(end: u64, entries: u32, out: *mut u8, room: usize, count: *mut usize) -> u32;
-    pub fn mtr_keeper_begin(keeper: *mut RawPlace) -> u32;
+    pub fn mtr_keeper_begin(keeper: *mut RawPlace, salt: u64) -> u32;
     pub fn mtr_keeper_failed(keeper: *mut RawPlace) -> u32;
     pub fn mtr_keeper_acknowledged(keeper: *mut RawPlace, below: *mut u64) -> u32;
-    pub fn mtr_keeper_resume(keeper: *mut RawPlace, store: *mut RawPlace, number: u32) -> u32;
+    pub fn mtr_keeper_resume(keeper: *mut RawPlace, store: *mut RawPlace, number: u32, salt: u64) -> u32;
     pub fn mtr_keeper_add(keeper: *mut RawPlace, log: *const u8, length: usize, number: *mut usize) -> u32;
     pub fn mtr_keeper_resumed(keeper: *mut RawPlace) -> u32;
     pub fn mtr_keeper_lend(keeper: *mut RawPlace) -> u32;

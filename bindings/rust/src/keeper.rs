@@ -23,7 +23,8 @@ use crate::{OutOfMemory, Store};
 /// ```
 /// # use mtrecover::{Buffer, Keeper};
 /// # use mtrecover::records::Column;
-/// let (mut keeper, new) = Keeper::begin()?;
+/// # let salt = 7;
+/// let (mut keeper, new) = Keeper::begin(salt)?;
 /// let mut file = new.bytes().to_vec(); // under another name, synced; renamed; the folder synced
 /// let log = keeper.created(new)?;
 /// let stamp = keeper.put(&log, b"fig", &[Column::new(0, b"green")])?;
@@ -50,7 +51,7 @@ pub struct Segment {
 /// A log that is to be created. It takes no record:
 ///
 /// ```compile_fail,E0308
-/// let (mut keeper, new) = mtrecover::Keeper::begin().unwrap();
+/// let (mut keeper, new) = mtrecover::Keeper::begin(7).unwrap();
 /// keeper.remove(&new, b"fig");
 /// ```
 #[must_use]
@@ -179,20 +180,22 @@ unsafe fn lent<'b>(raw: RawLent) -> &'b [u8] {
 // SAFETY, also below: slices are lent for the call, places hold what their type says, and a buffer's nothing or bytes.
 
 impl Keeper {
-    /// The keeper of an empty folder, and its first log. It takes no other log until this one is created.
-    pub fn begin() -> Result<(Keeper, NewLog), OutOfMemory> {
+    /// The keeper of an empty folder, and its first log. It takes no other log until this one is created. Logs are of format
+    /// 4. `salt` is a random number: the first file has it, and each further one the next number, so that bytes of other
+    /// files that a crash leaves in a file are known.
+    pub fn begin(salt: u64) -> Result<(Keeper, NewLog), OutOfMemory> {
         let keeper = Keeper(Place::empty());
-        done(unsafe { c::mtr_keeper_begin(keeper.0.raw()) })?;
+        done(unsafe { c::mtr_keeper_begin(keeper.0.raw(), salt) })?;
         let first = keeper.new_log(0);
         Ok((keeper, first))
     }
 
     /// Goes on from this store. All files are a keeper's. First sync them and the folder, and delete the parts of all
     /// checkpoints but the report's: a later recovery could choose another. `number` is the greatest number of a part that the
-    /// folder had, or 0.
-    pub fn resume(store: &Store, number: u32) -> Result<Resuming, OutOfMemory> {
+    /// folder had, or 0. `salt` is as for [`Keeper::begin`]: no salt of a log that was resumed.
+    pub fn resume(store: &Store, number: u32, salt: u64) -> Result<Resuming, OutOfMemory> {
         let place = Place::empty();
-        done(unsafe { c::mtr_keeper_resume(place.raw(), store.0.raw(), number) })?;
+        done(unsafe { c::mtr_keeper_resume(place.raw(), store.0.raw(), number, salt) })?;
         Ok(Resuming { place, logs: Vec::new() })
     }
 
@@ -233,7 +236,8 @@ impl Keeper {
     }
 
     /// Appends a put of these columns, whose numbers rise. Returns its timestamp, which is its version too, above all stamps
-    /// before. So call it while no other update of the key is made.
+    /// before. So call it while no other update of the key is made. `Early`: the log holds more than 4,190,052 bytes that
+    /// were not taken; take, write and sync them first.
     pub fn put(&mut self, log: &Log, key: &[u8], columns: &[Column]) -> Result<u64, KeeperError> {
         let (length, n) = (key.len(), columns.len());
         self.stamp(|keeper, stamp| unsafe {
@@ -291,7 +295,7 @@ impl Keeper {
     ///
     /// ```
     /// # use mtrecover::{Keeper, records::Column};
-    /// let (mut keeper, first) = Keeper::begin()?;
+    /// let (mut keeper, first) = Keeper::begin(7)?;
     /// let log = keeper.created(first)?;
     /// let mut crew = keeper.lend().map_err(|(_, error)| error)?;
     /// let mut worker = crew.hire()?.expect("the worker of the log");

@@ -8,7 +8,7 @@ use crate::{OutOfMemory, WriteError};
 
 pub use crate::c::Column;
 
-/// A format of logs and parts. Segments have the records of format 2.
+/// A format of logs and parts. Segments, and all files of format 4, have the records and entries of format 2.
 #[derive(Clone, Copy, Debug, PartialEq, Eq)]
 pub enum Format {
     /// Keys of at most 1,024 bytes, columns 0 to 15, no erases.
@@ -17,6 +17,10 @@ pub enum Format {
     Two,
 }
 
+/// The mark of a file of format 4, with which its blocks begin. Its header tells it.
+#[derive(Clone, Copy, Debug, PartialEq, Eq)]
+pub struct Mark(u32);
+
 /// What became of a log.
 #[derive(Clone, Copy, Debug, PartialEq, Eq)]
 pub struct Resumed {
@@ -24,7 +28,7 @@ pub struct Resumed {
     pub dropped: u64,
     /// The format in which its records go on.
     pub format: Format,
-    /// Whether the bytes are others now.
+    /// Whether the bytes are others now, as those of a log of format 4 always are.
     pub changed: bool,
     /// Whether a mark at 2^64 - 1 ends them, so that records go on in another log.
     pub ended: bool,
@@ -70,6 +74,29 @@ pub fn log_header(out: &mut Vec<u8>, format: Format, from: u64) -> Result<(), Ou
 /// Appends the header of a segment of a worker's log.
 pub fn segment_header(out: &mut Vec<u8>, from: u64, worker: u32, segment: u32) -> Result<(), OutOfMemory> {
     done(append(out, |at, room, count| unsafe { c::mtr_segment_header(from, worker, segment, at, room, count) }))
+}
+
+/// Appends the header of a log of format 4, which is a segment of a worker's log, and returns the mark of its blocks. `salt`
+/// is a random number, new for each file, and `workers` the number of workers of the server. Records go into blocks
+/// ([`seal`]), cut anywhere.
+pub fn log_header_4(
+    out: &mut Vec<u8>,
+    salt: u64,
+    worker: u32,
+    segment: u32,
+    workers: u32,
+    from: u64,
+) -> Result<Mark, OutOfMemory> {
+    let mut mark = 0;
+    done(append(out, |at, room, count| unsafe {
+        c::mtr_log_header_4(salt, worker, segment, workers, from, at, room, count, &mut mark)
+    }))?;
+    Ok(Mark(mark))
+}
+
+/// Appends a block with this body to the file with this mark. `NotLawful`: the body has more than 2^23 bytes.
+pub fn seal(out: &mut Vec<u8>, mark: Mark, body: &[u8]) -> Result<(), WriteError> {
+    write(out, |at, room, count| unsafe { c::mtr_seal(mark.0, body.as_ptr(), body.len(), at, room, count) })
 }
 
 /// Appends a mark.
@@ -128,6 +155,23 @@ pub fn part_header(
     }))
 }
 
+/// Appends the header of a part of format 4, likewise, and returns the mark of its blocks, into which entries and the footer
+/// go ([`seal`]), cut anywhere. `salt` is a random number, new for each file.
+pub fn part_header_4(
+    out: &mut Vec<u8>,
+    salt: u64,
+    number: u32,
+    begin: u64,
+    part: u16,
+    parts: u16,
+) -> Result<Mark, OutOfMemory> {
+    let mut mark = 0;
+    done(append(out, |at, room, count| unsafe {
+        c::mtr_part_header_4(salt, number, begin, part, parts, at, room, count, &mut mark)
+    }))?;
+    Ok(Mark(mark))
+}
+
 /// Appends the entry of a key with these columns, whose numbers rise, to a part of this format.
 pub fn entry(
     out: &mut Vec<u8>,
@@ -148,11 +192,11 @@ pub fn part_footer(out: &mut Vec<u8>, end: u64, entries: u32) -> Result<(), OutO
 }
 
 /// Appends what replaces this log if a server goes on after a recovery with this cutoff: its records below the cutoff, and
-/// a mark there.
-pub fn resume_log(out: &mut Vec<u8>, log: &[u8], cutoff: u64) -> Result<Resumed, WriteError> {
+/// a mark there. A log of format 4 is replaced by a file of format 4 with this salt, a random number, new for each file.
+pub fn resume_log(out: &mut Vec<u8>, log: &[u8], cutoff: u64, salt: u64) -> Result<Resumed, WriteError> {
     let mut raw = RawResumed::default();
     write(out, |at, room, count| unsafe {
-        c::mtr_resume_log(log.as_ptr(), log.len(), cutoff, &mut raw, at, room, count)
+        c::mtr_resume_log(log.as_ptr(), log.len(), cutoff, salt, &mut raw, at, room, count)
     })?;
     let format = if raw.format == 1 { Format::One } else { Format::Two };
     Ok(Resumed { dropped: raw.dropped, format, changed: raw.changed, ended: raw.ended })

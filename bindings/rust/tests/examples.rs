@@ -216,10 +216,10 @@ fn a_device_that_failed_is_a_fault() {
 fn a_torn_log_is_resumed() {
     let log = example("store/worker-1.mtl");
     let mut resumed = Vec::new();
-    let told = records::resume_log(&mut resumed, &log, 40).unwrap();
+    let told = records::resume_log(&mut resumed, &log, 40, 7).unwrap();
     assert_eq!(told, Resumed { dropped: 1, format: Format::Two, changed: true, ended: false });
     assert_eq!(mtrecover::recover(&[&resumed], &[]).unwrap().report().cutoff, 40);
-    assert_eq!(records::resume_log(&mut resumed, b"x", 40), Err(WriteError::NoLog));
+    assert_eq!(records::resume_log(&mut resumed, b"x", 40, 7), Err(WriteError::NoLog));
 }
 
 #[test]
@@ -251,12 +251,66 @@ fn an_ended_log_says_so() {
     let (mut log, mut resumed) = (Vec::new(), Vec::new());
     records::segment_header(&mut log, 0, 2, 1).unwrap();
     records::mark(&mut log, u64::MAX).unwrap();
-    let told = records::resume_log(&mut resumed, &log, 40).unwrap();
+    let told = records::resume_log(&mut resumed, &log, 40, 7).unwrap();
     assert_eq!(told, Resumed { dropped: 0, format: Format::Two, changed: true, ended: true });
+}
+
+/// A log of format 4 with these bytes in one block.
+fn sealed(segment: u32, body: &[u8]) -> Vec<u8> {
+    let mut log = Vec::new();
+    let mark = records::log_header_4(&mut log, 7, 0, segment, 1, 0).unwrap();
+    records::seal(&mut log, mark, body).unwrap();
+    log
+}
+
+#[test]
+fn a_log_has_records_in_blocks() {
+    let mut body = Vec::new();
+    records::put(&mut body, Format::Two, 1, 1, b"k", &[Column::new(0, b"v")]).unwrap();
+    records::mark(&mut body, 2).unwrap();
+    let mut log = sealed(0, &body);
+    assert_eq!(log.len(), 44 + 16 + body.len());
+    assert_eq!(mtrecover::recover(&[&log], &[]).unwrap().get(b"k", 0), Some(b"v".to_vec()));
+    log[60] ^= 1;
+    log.extend_from_slice(&sealed(0, &body)[44..]);
+    assert_eq!(fault(&[&log]), Fault::Record { log: 0, record: 0, what: What::Checksum });
+}
+
+#[test]
+fn a_log_in_blocks_is_resumed_with_another_salt() {
+    let (mut body, mut resumed) = (Vec::new(), Vec::new());
+    records::mark(&mut body, 2).unwrap();
+    let told = records::resume_log(&mut resumed, &sealed(3, &body), 2, 8).unwrap();
+    assert_eq!(told, Resumed { dropped: 0, format: Format::Two, changed: true, ended: false });
+    assert_eq!((&resumed[..4], resumed[11], resumed.len()), (&b"MTL4"[..], 8, 77));
+}
+
+#[test]
+fn a_part_has_entries_in_blocks() {
+    let (mut part, mut entry, mut footer) = (Vec::new(), Vec::new(), Vec::new());
+    let mark = records::part_header_4(&mut part, 7, 1, 0, 0, 1).unwrap();
+    records::entry(&mut entry, Format::Two, 1, b"k", &[Column::new(0, b"v")]).unwrap();
+    records::part_footer(&mut footer, 1, 1).unwrap();
+    records::seal(&mut part, mark, &entry).unwrap();
+    records::seal(&mut part, mark, &footer).unwrap();
+    let mut body = Vec::new();
+    records::mark(&mut body, 2).unwrap();
+    let store = mtrecover::recover(&[&sealed(0, &body)], &[&part]).unwrap();
+    assert_eq!((store.report().checkpoint, store.get(b"k", 0)), (Some(1), Some(b"v".to_vec())));
+}
+
+#[test]
+fn a_long_body_is_not_sealed() {
+    let mut out = Vec::new();
+    let mark = records::log_header_4(&mut Vec::new(), 7, 0, 0, 1, 0).unwrap();
+    assert_eq!(records::seal(&mut out, mark, &vec![0; (1 << 23) + 1]), Err(WriteError::NotLawful));
+    assert!(out.is_empty());
+    assert_eq!(records::seal(&mut out, mark, &vec![0; 1 << 23]), Ok(()));
+    assert_eq!(out.len(), (1 << 23) + 16);
 }
 
 #[test]
 fn the_library_tells_its_version() {
     let version = mtrecover::version();
-    assert_eq!((version.library, version.log_format, version.part_format), (3, 3, 2));
+    assert_eq!((version.library, version.log_format, version.part_format), (3, 4, 4));
 }

@@ -5,7 +5,7 @@ use mtrecover::records::{self, Column};
 
 /// A keeper whose first log may be written, and the bytes of its file.
 fn keeper() -> (Keeper, Log, Vec<u8>) {
-    let (mut keeper, new) = Keeper::begin().unwrap();
+    let (mut keeper, new) = Keeper::begin(7).unwrap();
     let file = new.bytes().to_vec();
     let log = keeper.created(new).unwrap();
     (keeper, log, file)
@@ -205,11 +205,11 @@ fn a_keeper_goes_on_after_a_crash() {
     let second = rotate(&mut keeper, log).bytes().to_vec();
 
     let store = mtrecover::recover(&[&first, &second], &[]).unwrap();
-    let mut resuming = Keeper::resume(&store, 0).unwrap();
+    let mut resuming = Keeper::resume(&store, 0, 9).unwrap();
     let mut resumed = Vec::new();
     for log in [&first, &second] {
         resumed.clear();
-        records::resume_log(&mut resumed, log, store.report().cutoff).unwrap();
+        records::resume_log(&mut resumed, log, store.report().cutoff, 8).unwrap();
         resuming.add(&resumed).unwrap();
     }
     let (mut keeper, logs) = resuming.finish().unwrap();
