@@ -18,11 +18,12 @@
 #include <stdlib.h>
 #include <string.h>
 #include <sys/file.h>
+#include <sys/random.h>
 #include <sys/stat.h>
 #include <unistd.h>
 
-/* NEW is room for the bytes of a new log, or for what a resume adds to one; BUFFER for an entry. */
-enum { NAME = 32, NEW = 64, BUFFER = 1 << 23 };
+/* NEW is room for the bytes of a new log, or for what a resume adds to one; BUFFER for an entry, and BLOCK for a block of them. */
+enum { NAME = 32, NEW = 128, BUFFER = 1 << 23, BLOCK = BUFFER + 16 };
 
 /* A worker's log: its newest file, and the thread that writes it. */
 struct log {
@@ -61,14 +62,16 @@ struct mtr_host {
     pthread_t checkpoints;
     bool has_checkpoints;
     uint64_t standing; /* the number of the checkpoint that it stands on, or 2^64 - 1 */
+    uint64_t salt;     /* a random number: no file of another start has it, or one that follows it */
 };
 
 struct mtr_host_part {
     int file;
+    uint32_t mark;   /* of the file */
     bool has_failed; /* an entry is not written */
     uint32_t entries;
-    size_t length;
-    uint8_t bytes[BUFFER];
+    size_t length; /* of what follows in the next block */
+    uint8_t bytes[BUFFER], block[BLOCK];
 };
 
 /* Says what failed. Returns false. */
@@ -85,6 +88,9 @@ static bool is_done(uint32_t status, const char *what) {
     static const char *const words[] = {"", "no memory", "wrong", "absent", "short", "fault", "early", "full", "failed"};
     return status == MTR_DONE || says(what, words[status]);
 }
+
+/* Draws a random number. */
+static bool draw(uint64_t *number) { return did(getrandom(number, sizeof *number, 0) == sizeof *number, "a random number"); }
 
 /* ---- Files ---- */
 
@@ -188,12 +194,13 @@ static int create_log(mtr_host *host, size_t number) {
     return file;
 }
 
-/* Writes and syncs all that was appended to the log, and a mark beyond it, under the lock. */
+/* Writes and syncs all that was appended to the log, and a mark beyond it, if there is room for one, under the lock. */
 static bool commit(struct log *log) {
     mtr_host *host = log->host;
     mtr_lent lent;
     uint64_t last = host->last;
-    if (!is_done(mtr_log_mark(&host->keeper, log->number), "a mark") ||
+    uint32_t marked = mtr_log_mark(&host->keeper, log->number);
+    if ((marked != MTR_EARLY && !is_done(marked, "a mark")) ||
         !is_done(mtr_log_take(&host->keeper, log->number, &log->buffer, &lent), "records"))
         return false;
     pthread_mutex_unlock(&host->lock);
@@ -201,7 +208,7 @@ static bool commit(struct log *log) {
     pthread_mutex_lock(&host->lock);
     if (!is_synced || host->has_failed || !is_done(mtr_log_synced(&host->keeper, log->number), "a sync"))
         return false;
-    log->covered = last;
+    log->covered = marked == MTR_DONE ? last : log->covered;
     log->size += lent.length;
     host->written += lent.length;
     mtr_keeper_acknowledged(&host->keeper, &host->below);
@@ -249,10 +256,13 @@ static void *write_log(void *given) {
 
 /* ---- Checkpoints ---- */
 
+/* Writes a block. */
 static bool flush(mtr_host_part *part) {
-    size_t length = part->length;
+    size_t count = 0;
+    if (!is_done(mtr_seal(part->mark, part->bytes, part->length, part->block, BLOCK, &count), "a part"))
+        return false;
     part->length = 0;
-    return did(write_all(part->file, part->bytes, length), "a part");
+    return did(write_all(part->file, part->block, count), "a part");
 }
 
 bool mtr_host_entry(mtr_host_part *part, uint64_t version, const uint8_t *key, size_t key_length, const mtr_column *columns,
@@ -274,7 +284,10 @@ bool mtr_host_entry(mtr_host_part *part, uint64_t version, const uint8_t *key, s
 /* Reads all keys into the part, between its header and its footer. */
 static bool write_part(mtr_host *host, mtr_host_part *part, uint32_t number, uint64_t begin, uint64_t *end) {
     size_t count = 0;
-    if (!is_done(mtr_part_header(2, number, begin, 0, 1, part->bytes, BUFFER, &part->length), "a part") ||
+    uint64_t salt = 0;
+    if (!draw(&salt) ||
+        !is_done(mtr_part_header_4(salt, number, begin, 0, 1, part->block, BLOCK, &count, &part->mark), "a part") ||
+        !did(write_all(part->file, part->block, count), "a part") ||
         !host->settings.entries(host->settings.server, part) || part->has_failed || !flush(part))
         return false;
     pthread_mutex_lock(&host->lock);
@@ -471,9 +484,13 @@ static uint32_t number_at(const uint8_t *bytes) {
 /* Whether the file has the name that its header says, since files are deleted by their names. One without a whole header is
  * no log, and as a part is not chosen. */
 static bool is_named(const uint8_t *bytes, size_t length, const struct left *log, uint32_t part, const char *name) {
-    bool is_own = length < 20 || (log == NULL ? number_at(bytes + 4) == part
-                                              : memcmp(bytes, "MTL3", 4) == 0 && number_at(bytes + 12) == log->worker &&
-                                                    number_at(bytes + 16) == log->segment);
+    bool is_sealed = length > 3 && bytes[3] == '4', is_own;
+    if (log == NULL)
+        is_own = length < (is_sealed ? 36 : 20) || number_at(bytes + (is_sealed ? 12 : 4)) == part;
+    else
+        is_own = length < (is_sealed ? 44 : 20) ||
+                 ((is_sealed || bytes[3] == '3') && number_at(bytes + (is_sealed ? 16 : 12)) == log->worker &&
+                  number_at(bytes + (is_sealed ? 24 : 16)) == log->segment);
     return is_own || says(name, "is not the file of this name");
 }
 
@@ -526,21 +543,21 @@ static bool recover(const mtr_host *host, struct found *found, mtr_place *store,
     return is_done(status, "recovery") && is_done(mtr_get_report(store, report), "recovery");
 }
 
-/* Adds a worker's log with this newest file, or closes it. */
-static bool add_log(mtr_host *host, size_t number, int file, uint64_t size) {
+/* Adds a worker's log with this newest file, to which no record may go if it is full, or closes it. */
+static bool add_log(mtr_host *host, size_t number, int file, uint64_t size, bool is_full) {
     struct log *logs = realloc(host->logs, (host->count + 1) * sizeof *logs);
     if (!did(logs != NULL, "a log")) {
         close(file);
         return false;
     }
     host->logs = logs;
-    logs[host->count] = (struct log){.host = host, .number = number, .file = file, .size = size, .covered = host->last};
-    host->count++;
+    logs[host->count++] =
+        (struct log){.host = host, .number = number, .file = file, .size = size, .is_full = is_full, .covered = host->last};
     return true;
 }
 
 /* Replaces a log by what goes on. Returns the file open, or -1. */
-static int resume(mtr_host *host, const struct left *log, uint64_t cutoff, size_t *number, size_t *size) {
+static int resume(mtr_host *host, const struct left *log, uint64_t cutoff, uint64_t salt, size_t *number, size_t *size) {
     char name[NAME];
     mtr_resumed resumed;
     size_t room = log->length + NEW;
@@ -548,7 +565,7 @@ static int resume(mtr_host *host, const struct left *log, uint64_t cutoff, size_
     int file = -1;
     name_log(log->worker, log->segment, name);
     if (did(bytes != NULL, name) &&
-        is_done(mtr_resume_log(log->bytes, log->length, cutoff, &resumed, bytes, room, size), name)) {
+        is_done(mtr_resume_log(log->bytes, log->length, cutoff, salt, &resumed, bytes, room, size), name)) {
         file = create(host, name);
         if (!did(file >= 0 && fchmod(file, log->mode) == 0 && write_all(file, bytes, *size), name) ||
             !place(host, file, name) || !is_done(mtr_keeper_add(&host->keeper, bytes, *size, number), name)) {
@@ -572,14 +589,14 @@ static bool go_on(mtr_host *host, const struct found *found, mtr_place *store, c
     }
     host->standing = report->checkpoint;
     host->last = report->cutoff > 0 ? report->cutoff - 1 : 0;
-    if (!is_done(mtr_keeper_resume(&host->keeper, store, greatest), "the keeper"))
+    if (!is_done(mtr_keeper_resume(&host->keeper, store, greatest, host->salt + found->log_count), "the keeper"))
         return false;
     for (size_t n = 0; n < found->log_count; n++) {
         const struct left *log = &found->logs[n];
         size_t number = 0, size = 0;
-        int file = resume(host, log, report->cutoff, &number, &size);
-        bool is_newest = n + 1 == found->log_count || log[1].worker != log->worker;
-        if (file < 0 || (is_newest && !add_log(host, number, file, size)))
+        int file = resume(host, log, report->cutoff, host->salt + n, &number, &size);
+        bool is_newest = n + 1 == found->log_count || log[1].worker != log->worker, is_sealed = log->bytes[3] == '4';
+        if (file < 0 || (is_newest && !add_log(host, number, file, size, !is_sealed)))
             return false;
         if (!is_newest)
             close(file);
@@ -587,15 +604,20 @@ static bool go_on(mtr_host *host, const struct found *found, mtr_place *store, c
     return is_done(mtr_keeper_resumed(&host->keeper), "the keeper");
 }
 
-/* Begins logs until there are as many as wanted, under the lock. */
+/* Begins the next files of those logs that are full, and logs until there are as many as wanted, under the lock. */
 static bool begin_logs(mtr_host *host) {
+    for (unsigned n = 0; n < host->count; n++) {
+        if (host->logs[n].is_full && !rotate(&host->logs[n]))
+            return false;
+        host->logs[n].is_full = false;
+    }
     while (host->count < host->settings.logs) {
         size_t number = 0;
         bool is_first = !host->keeper.full;
-        if (!is_done(is_first ? mtr_keeper_begin(&host->keeper) : mtr_log_begin(&host->keeper, &number), "a log"))
+        if (!is_done(is_first ? mtr_keeper_begin(&host->keeper, host->salt) : mtr_log_begin(&host->keeper, &number), "a log"))
             return false;
         int file = create_log(host, number);
-        if (file < 0 || !add_log(host, number, file, 0))
+        if (file < 0 || !add_log(host, number, file, 0, false))
             return false;
     }
     return true;
@@ -613,7 +635,7 @@ mtr_host *mtr_host_open(const mtr_host_settings *settings, mtr_place *store, uin
     pthread_cond_init(&host->work, NULL);
     pthread_cond_init(&host->done, NULL);
     host->folder = open(settings->folder, O_RDONLY | O_DIRECTORY | O_CLOEXEC);
-    bool is_open = did(host->folder >= 0, settings->folder) && search(host, &found);
+    bool is_open = did(host->folder >= 0, settings->folder) && draw(&host->salt) && search(host, &found);
     if (is_open && found.log_count + found.part_count > 0)
         is_open = recover(host, &found, store, &report) && go_on(host, &found, store, &report);
     pthread_mutex_lock(&host->lock);
@@ -646,15 +668,22 @@ bool mtr_host_start(mtr_host *host) {
 
 /* ---- Updates ---- */
 
+/* Appends a put or a remove to the log, under the lock. EARLY: its thread has to write first. */
+static uint32_t append(struct log *log, const uint8_t *key, size_t key_length, const mtr_column *columns, size_t column_count,
+                       uint64_t *stamp) {
+    mtr_place *keeper = &log->host->keeper;
+    if (log->is_full && !log->host->has_failed)
+        return MTR_EARLY;
+    return column_count > 0 ? mtr_log_put(keeper, log->number, key, key_length, columns, column_count, stamp)
+                            : mtr_log_remove(keeper, log->number, key, key_length, stamp);
+}
+
 uint32_t mtr_host_put(mtr_host *host, unsigned log, const uint8_t *key, size_t key_length, const mtr_column *columns,
                       size_t column_count, uint64_t *stamp) {
-    struct log *at = &host->logs[log];
+    uint32_t status;
     pthread_mutex_lock(&host->lock);
-    while (at->is_full && !host->has_failed)
+    while ((status = append(&host->logs[log], key, key_length, columns, column_count, stamp)) == MTR_EARLY)
         pthread_cond_wait(&host->done, &host->lock);
-    uint32_t status = column_count > 0
-                          ? mtr_log_put(&host->keeper, at->number, key, key_length, columns, column_count, stamp)
-                          : mtr_log_remove(&host->keeper, at->number, key, key_length, stamp);
     if (status == MTR_DONE) {
         host->last = *stamp;
         pthread_cond_broadcast(&host->work);

@@ -30,7 +30,8 @@ mtr_host *mtr_host_open(const mtr_host_settings *settings, mtr_place *store, uin
 bool mtr_host_start(mtr_host *host);
 
 /* Appends a put of these columns to one of the logs, or a remove if there are none. Call it in one step with the change of
- * the server's own table, so that a key's stamps rise in the order of its changes. Answers as mtr_log_put. */
+ * the server's own table, so that a key's stamps rise in the order of its changes. It waits while the log's thread has to
+ * write first. Answers as mtr_log_put. */
 uint32_t mtr_host_put(mtr_host *host, unsigned log, const uint8_t *key, size_t key_length, const mtr_column *columns,
                       size_t column_count, uint64_t *stamp);
 

@@ -22,6 +22,7 @@ use core::error::Error as StdError;
 use core::fmt::{self, Display, Formatter};
 use core::mem;
 use std::fs::{self, File, Permissions};
+use std::hash::{BuildHasher, Hasher, RandomState};
 use std::io::{self, Read, Write};
 use std::os::fd::AsRawFd;
 use std::path::PathBuf;
@@ -29,7 +30,7 @@ use std::sync::{Condvar, Mutex, MutexGuard};
 use std::thread::{self, JoinHandle, Thread};
 
 use crate::keeper::{Buffer, Checkpoint, Keeper, KeeperError, Log, NewLog, Resuming, Segment};
-use crate::records::{self, Column, Format};
+use crate::records::{self, Column, Format, Mark};
 use crate::{Feed, Inputs, OutOfMemory, Store};
 
 /// What a host works on.
@@ -78,7 +79,7 @@ impl<T, E: Display> Of<T> for Result<T, E> {
 
 // ---- Files ----
 
-/// How many bytes of a checkpoint are written at once.
+/// How many bytes of entries a block of a checkpoint has, and up to one more.
 const ROOM: usize = 1 << 20;
 
 fn name_of_log(segment: Segment) -> String {
@@ -224,7 +225,7 @@ pub fn open(settings: Settings) -> Result<Opened, HostError> {
 }
 
 fn begin(settings: Settings, folder: Folder) -> Result<Opened, HostError> {
-    let (keeper, first) = Keeper::begin().of("the keeper")?;
+    let (keeper, first) = Keeper::begin(salt()).of("the keeper")?;
     let mut opened = Opened { store: None, last: 0, settings, folder, keeper, logs: Vec::new(), standing: None };
     opened.add(first)?;
     Ok(opened)
@@ -237,10 +238,11 @@ struct Old {
     permissions: Permissions,
 }
 
-/// Whether a file has the name that its header says, since files are deleted by their names. One without a whole header is
-/// no log, and as a part is not chosen.
-fn is_own(bytes: &[u8], magic: &[u8], at: usize, number: &[u8]) -> bool {
-    bytes.len() < 20 || bytes.starts_with(magic) && bytes[at..].starts_with(number)
+/// Whether a file has the name that its header of this size says, since files are deleted by their names. One without a whole
+/// header is no log, and as a part is not chosen.
+fn is_own(bytes: &[u8], size: usize, magic: &[u8], at: usize, numbers: &[u32]) -> bool {
+    let numbers: Vec<u8> = numbers.iter().flat_map(|number| number.to_be_bytes()).collect();
+    bytes.len() < size || bytes.starts_with(magic) && bytes[at..].starts_with(&numbers)
 }
 
 fn expect_own(is_own: bool, name: &str) -> Result<(), HostError> {
@@ -261,26 +263,38 @@ fn recover(folder: &Folder, found: &Found) -> Result<(Store, Vec<Old>), HostErro
     for &segment in &found.logs {
         let name = name_of_log(segment);
         let (bytes, permissions) = folder.read(&name)?;
-        let numbers = [segment.worker.to_be_bytes(), segment.number.to_be_bytes()].concat();
-        expect_own(is_own(&bytes, b"MTL3", 12, &numbers), &name)?;
+        let is_own = match bytes.get(3) {
+            Some(b'4') => is_own(&bytes, 44, b"MTL4", 16, &[segment.worker, 0, segment.number]),
+            _ => is_own(&bytes, 20, b"MTL3", 12, &[segment.worker, segment.number]),
+        };
+        expect_own(is_own, &name)?;
         add(&mut inputs, Feed::log(), &bytes).of(&name)?;
         logs.push(Old { segment, bytes, permissions });
     }
     for &number in &found.parts {
         let name = name_of_part(number);
         let (bytes, _) = folder.read(&name)?;
-        expect_own(is_own(&bytes, b"MTC", 4, &number.to_be_bytes()), &name)?;
+        let is_own = match bytes.get(3) {
+            Some(b'4') => is_own(&bytes, 36, b"MTC4", 12, &[number]),
+            _ => is_own(&bytes, 20, b"MTC", 4, &[number]),
+        };
+        expect_own(is_own, &name)?;
         add(&mut inputs, Feed::part(), &bytes).of(&name)?;
     }
     folder.file.sync_all().of("the folder")?;
     Ok((inputs.recover().of("recovery")?, logs))
 }
 
+/// Returns a random number.
+fn salt() -> u64 {
+    RandomState::new().build_hasher().finish()
+}
+
 /// Replaces a log by what goes on, and adds it. Returns its file and size.
-fn resume(folder: &Folder, keeper: &mut Resuming, log: Old, cutoff: u64) -> Result<(File, u64), HostError> {
+fn resume(folder: &Folder, keeper: &mut Resuming, log: Old, cutoff: u64, salt: u64) -> Result<(File, u64), HostError> {
     let name = name_of_log(log.segment);
     let mut bytes = Vec::new();
-    records::resume_log(&mut bytes, &log.bytes, cutoff).of(&name)?;
+    records::resume_log(&mut bytes, &log.bytes, cutoff, salt).of(&name)?;
     let mut file = folder.create(&name)?;
     file.set_permissions(log.permissions).of(&name)?;
     file.write_all(&bytes).of(&name)?;
@@ -297,21 +311,30 @@ fn go_on(settings: Settings, folder: Folder, found: Found) -> Result<Opened, Hos
     for number in others {
         folder.delete(&name_of_part(number))?;
     }
-    let mut resuming = Keeper::resume(&store, found.parts.last().copied().unwrap_or(0)).of("the keeper")?;
-    // Each worker's newest file.
-    let mut files: Vec<(u32, (File, u64))> = Vec::new();
-    for log in old {
-        let worker = log.segment.worker;
-        let file = resume(&folder, &mut resuming, log, report.cutoff)?;
-        if files.last().is_some_and(|(last, _)| *last == worker) {
+    let (salt, greatest) = (salt(), found.parts.last().copied().unwrap_or(0));
+    let mut resuming = Keeper::resume(&store, greatest, salt.wrapping_add(old.len() as u64)).of("the keeper")?;
+    // Each worker's newest file, and whether it is of format 4. One that is not is followed by one that is.
+    let mut files: Vec<(u32, (File, u64), bool)> = Vec::new();
+    for (n, log) in (0..).zip(old) {
+        let (worker, is_sealed) = (log.segment.worker, log.bytes.starts_with(b"MTL4"));
+        let file = resume(&folder, &mut resuming, log, report.cutoff, salt.wrapping_add(n))?;
+        if files.last().is_some_and(|(last, ..)| *last == worker) {
             files.pop();
         }
-        files.push((worker, file));
+        files.push((worker, file, is_sealed));
     }
     let (keeper, logs) = resuming.finish().of("the keeper")?;
-    let logs = logs.into_iter().zip(files).map(|(log, (_, (file, size)))| (log, file, size)).collect();
     let (store, last, standing) = (Some(store), report.cutoff.saturating_sub(1), chosen.first().copied());
-    Ok(Opened { store, last, settings, folder, keeper, logs, standing })
+    let mut opened = Opened { store, last, settings, folder, keeper, logs: Vec::new(), standing };
+    for (log, (_, (file, size), is_sealed)) in logs.into_iter().zip(files) {
+        if is_sealed {
+            opened.logs.push((log, file, size));
+        } else {
+            let new = opened.keeper.rotate(log).map_err(|(_, error)| error).of("a segment")?;
+            opened.add(new)?;
+        }
+    }
+    Ok(opened)
 }
 
 impl Opened {
@@ -387,6 +410,21 @@ struct State {
     is_closing: bool,
 }
 
+impl State {
+    /// Appends to one of the logs. `Early`: its thread has to write first.
+    fn append(
+        &mut self,
+        log: usize,
+        update: impl Fn(&mut Keeper, &Log) -> Result<u64, KeeperError>,
+    ) -> Result<u64, KeeperError> {
+        match self.logs.get(log).ok_or(KeeperError::NotLawful)? {
+            Some(log) => update(&mut self.keeper, log),
+            None if self.failure.is_none() => Err(KeeperError::Early),
+            None => Err(KeeperError::Failed),
+        }
+    }
+}
+
 impl Host {
     fn spawn(&mut self, work: impl FnOnce(&Shared) -> Result<(), HostError> + Send + 'static) -> Result<(), HostError> {
         let shared = Arc::clone(&self.shared);
@@ -414,14 +452,17 @@ impl Host {
     fn update(
         &self,
         log: usize,
-        update: impl FnOnce(&mut Keeper, &Log) -> Result<u64, KeeperError>,
+        update: impl Fn(&mut Keeper, &Log) -> Result<u64, KeeperError>,
     ) -> Result<u64, KeeperError> {
-        let mut state = self.shared.wait(&self.shared.done, |state| !matches!(state.logs.get(log), Some(None)));
-        let State { keeper, logs, last, .. } = &mut *state;
-        let log = logs.get(log).ok_or(KeeperError::NotLawful)?;
-        *last = update(keeper, log.as_ref().ok_or(KeeperError::Failed)?)?;
+        let mut stamp = Err(KeeperError::Early);
+        let is_early = |state: &mut State| {
+            stamp = state.append(log, &update);
+            stamp == Err(KeeperError::Early)
+        };
+        let mut state = self.shared.done.wait_while(self.shared.lock(), is_early).unwrap();
+        state.last = stamp?;
         self.shared.work.notify_all();
-        Ok(*last)
+        stamp
     }
 
     /// Waits until the update with this stamp, and all before, may be acknowledged or shown. Err: the host failed, and it may
@@ -522,11 +563,15 @@ impl Shared {
         }
     }
 
-    /// Writes and syncs all that was appended to the log, and a mark beyond it. If it is full, the next file follows.
+    /// Writes and syncs all that was appended to the log, and a mark beyond it, if there is room for one. If the log is full,
+    /// the next file follows.
     fn commit(&self, writer: &mut Writer, mut state: MutexGuard<'_, State>) -> Result<(), HostError> {
         let last = state.last;
         let log = state.logs[writer.number].take().expect("its thread alone takes it");
-        state.keeper.mark(&log).of("a mark")?;
+        let marked = state.keeper.mark(&log);
+        if marked != Err(KeeperError::Early) {
+            marked.of("a mark")?;
+        }
         let taken = state.keeper.take(&log, &mut writer.buffer).of("records")?;
         let full = if writer.size >= self.settings.segment {
             Some(log)
@@ -538,7 +583,7 @@ impl Shared {
         writer.file.write_all(&taken).of("a log")?;
         writer.file.sync_data().of("a log")?;
         let mut state = self.lock();
-        writer.covered = last;
+        writer.covered = if marked.is_ok() { last } else { writer.covered };
         writer.size += taken.len() as u64;
         state.written += taken.len() as u64;
         state.keeper.synced(taken).of("a sync")?;
@@ -566,7 +611,10 @@ impl Shared {
 #[derive(Debug)]
 pub struct Part {
     file: File,
+    /// Of the file.
+    mark: Mark,
     entries: u32,
+    /// What follows in the next block.
     bytes: Vec<u8>,
     /// Whether an entry was not written.
     is_lost: bool,
@@ -591,10 +639,12 @@ impl Part {
         Ok(())
     }
 
+    /// Writes a block.
     fn flush(&mut self) -> Result<(), HostError> {
-        self.file.write_all(&self.bytes).of("a part")?;
+        let mut block = Vec::new();
+        records::seal(&mut block, self.mark, &self.bytes).of("a part")?;
         self.bytes.clear();
-        Ok(())
+        self.file.write_all(&block).of("a part")
     }
 }
 
@@ -639,8 +689,11 @@ impl Shared {
         checkpoint: Checkpoint,
         entries: &mut impl FnMut(&mut Part) -> Result<(), HostError>,
     ) -> Result<(File, u64), HostError> {
-        let mut part = Part { file: self.folder.create(name)?, entries: 0, bytes: Vec::new(), is_lost: false };
-        records::part_header(&mut part.bytes, Format::Two, checkpoint.number, checkpoint.begin, 0, 1).of("a part")?;
+        let (mut file, mut header) = (self.folder.create(name)?, Vec::new());
+        let Checkpoint { number, begin } = checkpoint;
+        let mark = records::part_header_4(&mut header, salt(), number, begin, 0, 1).of("a part")?;
+        file.write_all(&header).of("a part")?;
+        let mut part = Part { file, mark, entries: 0, bytes: Vec::new(), is_lost: false };
         entries(&mut part)?;
         if part.is_lost {
             return Err(HostError::new(name, "lacks an entry"));

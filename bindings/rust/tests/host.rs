@@ -1,7 +1,7 @@
 //! The host over a folder. `.ci/try_hosts` plays its lives.
 
 use mtrecover::host::{self, Host, HostError, Part, Settings};
-use mtrecover::records::Column;
+use mtrecover::records::{self, Column, Format};
 use mtrecover::{KeeperError, Store};
 use std::fs;
 use std::path::{Path, PathBuf};
@@ -30,6 +30,11 @@ impl Folder {
 
     fn refusal(&self) -> String {
         host::open(self.settings()).err().unwrap().to_string()
+    }
+
+    /// The salts of its logs.
+    fn salts(&self) -> Vec<Vec<u8>> {
+        self.names(".mtl").iter().map(|name| fs::read(self.0.join(name)).unwrap()[4..12].to_vec()).collect()
     }
 
     /// The names that end so.
@@ -87,8 +92,55 @@ fn what_was_put_is_synced_at_the_end() {
 }
 
 #[test]
-fn checkpoints_make_segments_old() {
+fn each_file_has_a_salt_of_its_own() {
+    let folder = Folder::new("salts");
+    let mut salts = Vec::new();
+    for _ in 0..3 {
+        let (host, _) = folder.open();
+        host.close().unwrap();
+        salts.extend(folder.salts());
+    }
+    salts.sort();
+    salts.dedup();
+    assert_eq!(salts.len(), 6);
+}
+
+#[test]
+fn a_log_of_format_3_goes_on_in_format_4() {
     let folder = Folder::new("old");
+    let mut log = Vec::new();
+    records::segment_header(&mut log, 0, 0, 0).unwrap();
+    records::put(&mut log, Format::Two, 1, 1, b"a", &[Column::new(0, b"v")]).unwrap();
+    records::mark(&mut log, 2).unwrap();
+    fs::write(folder.0.join("0-0.mtl"), log).unwrap();
+    let (host, store) = folder.open();
+    assert!(store.unwrap().contains_key(b"a"));
+    host.wait(put(&host, 0, "b")).unwrap();
+    host.close().unwrap();
+    let store = folder.open().1.unwrap();
+    assert!(store.contains_key(b"a") && store.contains_key(b"b"));
+    let mut names = folder.names(".mtl");
+    names.retain(|name| fs::read(folder.0.join(name)).unwrap().starts_with(b"MTL4"));
+    names.sort();
+    assert_eq!(names, ["0-1.mtl", "1-0.mtl"]);
+}
+
+#[test]
+fn a_put_waits_while_a_log_holds_much() {
+    let folder = Folder::new("much");
+    let (host, _) = folder.open();
+    let value = [7; 60_000];
+    let columns: Vec<Column> = (0..60).map(|number| Column::new(number, &value)).collect();
+    for _ in 0..6 {
+        host.put(0, b"a", &columns).unwrap();
+    }
+    host.close().unwrap();
+    assert_eq!(folder.open().1.unwrap().get(b"a", 59), Some(value.to_vec()));
+}
+
+#[test]
+fn checkpoints_make_segments_old() {
+    let folder = Folder::new("segments");
     let (host, _) = folder.open();
     for n in 0..500 {
         host.wait(put(&host, n % 2, "a")).unwrap();
