@@ -6,14 +6,16 @@ use crate::host::{Host, Run};
 use crate::request::Resume;
 use crate::row::{Cell, Field, write_row};
 use crate::saving::Site;
+use crate::sealed::text_in;
+use mt_block::{Header, append_blocks};
 use mt_checkpoint::PlanFault;
-use mt_record::{Head, encode_log_header_2, encode_record, header_at, records_below};
+use mt_record::{Head, encode_record, header_at, open_file, records_below};
 use mt_recover::{Failure, Refusal, check_parts};
 use mt_scan::{Checkpoint, Choice, choose};
 use mt_words::{Fault, Record};
 use std::io::{self, ErrorKind, Write};
 
-/// A log of a header and a mark that is to be written.
+/// A log of a header and a mark that is to be written, of format 4.
 #[derive(Drop)]
 pub struct NewLog {
     name: String,
@@ -23,9 +25,12 @@ pub struct NewLog {
 }
 
 impl NewLog {
-    /// Plans a log `from` this timestamp, with a mark directly above `last`. Err: no timestamp is left; its name is taken.
+    /// Plans the log of a worker `from` this timestamp, with a mark directly above `last`, in a file with this salt. Err: no
+    /// timestamp is left; its name is taken.
     pub fn above<R: Host>(
         site: &Site<'_, R>,
+        salt: u64,
+        worker: u32,
         last: u64,
         from: u64,
     ) -> Result<NewLog, Halt<'static>> {
@@ -34,9 +39,17 @@ impl NewLog {
         if mark >= u64::MAX - 1 {
             return Err(Halt::Unplanned("log", PlanFault::Timestamp));
         }
-        let mut bytes = Vec::new(site.rt.alloc());
-        encode_log_header_2(from, &mut bytes)?;
-        encode_record(&Record::mark(mark), &mut bytes)?;
+        let header = Header {
+            salt,
+            worker,
+            segment: 0,
+            workers: worker.saturating_add(1),
+            from,
+        };
+        let mut records = Vec::new(site.rt.alloc());
+        encode_record(&Record::mark(mark), &mut records)?;
+        let mut bytes = header.bytes(site.rt.alloc())?;
+        append_blocks(header.mark(), &records, &mut bytes)?;
         let name = format!(in site.rt.alloc(); "open-{mark}.mtl")?;
         site.expect(name.as_str(), true)?;
         Ok(NewLog { name, bytes, mark })
@@ -66,7 +79,11 @@ impl<'a, R: Host> Run<'a, R> {
         let mut last = 0;
         for (log, name) in self.names.logs.iter().enumerate() {
             let bytes = site.read(name.as_str())?;
-            let (head, records) = header_at(&bytes).ok_or(Fault::Header { log })?;
+            let opened = match open_file(self.rt.alloc(), &bytes) {
+                Ok(opened) => opened,
+                Err(fault) => return Err(Halt::from(fault.of_log(log))),
+            };
+            let (head, records) = header_at(text_in(&opened, &bytes)).ok_or(Fault::Header { log })?;
             let from = if head.from == u64::MAX { 0 } else { head.from };
             let kept = records_below(head.format, u64::MAX, records);
             last = last_of(self.rt.alloc(), Head { from, ..head }, &[kept])?.max(last);
@@ -95,7 +112,7 @@ impl<'a, R: Host> Run<'a, R> {
             return Ok(losses.map(Caveat::Losses));
         }
         self.expect_room(self.names.parts.len())?;
-        let log = NewLog::above(site, checkpoint.end, checkpoint.begin)?;
+        let log = NewLog::above(site, site.salt()?, 0, checkpoint.end, checkpoint.begin)?;
         if !how.is_dry {
             for name in &self.names.parts {
                 site.sync_file(name.as_str())?;

@@ -4,7 +4,8 @@ ghost use Rattle.std.specs.Prelude.{◌<◌};
 use crate::checked::{Checked, CheckedLog};
 use crate::fates::{Fate, numbers_of};
 use crate::host::{Host, Run};
-use mt_record::{Rest, header_at, record_at};
+use crate::sealed::text_in;
+use mt_record::{FeedFault, Rest, header_at, open_file, record_at};
 use mt_recover::Refusal;
 use mt_text::Shown;
 use mt_words::{Fault, Memory};
@@ -300,13 +301,17 @@ impl<'a, R: Host> Run<'a, R> {
         Ok(chart.write(width.unwrap_or(USUAL_WIDTH) as usize, out)?)
     }
 
-    /// Returns the timestamp of the first record of the log of this name. None: it has none, is of format 4, or cannot be read
-    /// again.
+    /// Returns the timestamp of the first record of the log of this name. None: it has none, or cannot be read again.
     fn first_of(&self, name: &str) -> Result<Option<u64>, Memory> {
         let Some(file) = self.read_again(name, READ)? else {
             return Ok(None);
         };
-        let Some((head, rest)) = header_at(&file.held) else {
+        let opened = match open_file(self.rt.alloc(), &file.held) {
+            Ok(opened) => opened,
+            Err(FeedFault::Memory) => return Err(Memory),
+            Err(_) => return Ok(None),
+        };
+        let Some((head, rest)) = header_at(text_in(&opened, &file.held)) else {
             return Ok(None);
         };
         match record_at(self.rt.alloc(), head.format, 0, rest)? {

@@ -7,7 +7,7 @@ use crate::row::{Cell, Field, write_row};
 use mt_record::{LogFront, Rest, Segment};
 use mt_recover::{LogCheck, Refusal, Start};
 use mt_words::Fault;
-use std::alloc::Global;
+use std::alloc::{AllocError, Global};
 use std::io::{self, Write};
 
 /// What a check finds in the files of a folder.
@@ -38,7 +38,9 @@ pub struct CheckedLog<'a> {
     /// Whether it is of format 4. None: its file cannot be read again.
     pub is_sealed: Option<bool>,
     pub check: Result<LogCheck, Fault>,
-    /// What follows its complete records, if something does, its file could be read again, and it is not of format 4.
+    /// The byte of its file where its complete records end, if it is of format 4 and its file could be read again.
+    pub end: Option<u64>,
+    /// What follows its complete records, if something does, and its file could be read again.
     pub ending: Option<Ending>,
     /// Where the hole before it begins, if there is one and recovery names no fault.
     pub hole: Option<u64>,
@@ -186,6 +188,24 @@ impl<'a> Checked<'a> {
     }
 }
 
+/// Returns the least number that no worker of these logs has. Err: out of memory.
+pub fn unused_worker(alloc: Global, logs: &[CheckedLog<'_>]) -> Result<u32, AllocError> {
+    let mut workers = Vec::with_capacity(alloc, logs.len())?;
+    for front in logs.iter().filter_map(CheckedLog::front) {
+        if let Some(segment) = front.head.segment {
+            workers.push(segment.worker)?;
+        }
+    }
+    workers.sort_unstable();
+    let mut unused: u32 = 0;
+    for worker in &workers {
+        if *worker == unused {
+            unused = unused.saturating_add(1);
+        }
+    }
+    Ok(unused)
+}
+
 impl CheckedLog<'_> {
     /// Returns its front, if it has a header.
     pub fn front(&self) -> Option<&LogFront> {
@@ -222,8 +242,8 @@ impl CheckedLog<'_> {
         }
     }
 
-    /// Returns its line. The late updates are known if there is a cutoff. Where the records end is told if the log stands in its
-    /// file as it is. The reason ends the line, since it has blanks.
+    /// Returns its line. The late updates are known if there is a cutoff. Where the records end is told if it is known
+    /// in bytes of the file. The reason ends the line, since it has blanks.
     fn fields(&self, number: usize, has_cutoff: bool) -> [Field<'_>; 20] {
         let state = match &self.check {
             Ok(check) => match check.front.rest {
@@ -236,7 +256,11 @@ impl CheckedLog<'_> {
         };
         let [end, records, marks, late, from, last] = match &self.check {
             Ok(LogCheck { front, marks, late }) => [
-                self.is_plain().then_some(front.bytes),
+                if self.is_plain() {
+                    Some(front.bytes)
+                } else {
+                    self.end
+                },
                 Some(front.count),
                 Some(*marks),
                 has_cutoff.then_some(*late),

@@ -9,6 +9,7 @@ use crate::host::{Host, Run};
 use crate::intake::{Intake, LogIntake, unread};
 use crate::progress::{Meter, count_all};
 use crate::request::CheckForm;
+use crate::sealed::Sealed;
 use mt_record::{Head, Rest, encode_head};
 use mt_recover::{
     Failure, LogCheck, Refusal, Window, check_logs, check_parts, fronts_of, hole_before, start_of,
@@ -88,13 +89,15 @@ impl<'a, R: Host> Run<'a, R> {
         for ((log, name), check) in self.names.logs.iter().enumerate().zip(checks) {
             let is_unread = matches!(check, Err(Fault::Source { .. }));
             let is_sealed = self.is_sealed(name.as_str())?;
-            let ending = match is_sealed {
-                Some(false) => self.ending_of(name.as_str(), &check)?,
-                Some(true) | None => None,
+            let (end, ending) = match is_sealed {
+                Some(false) => (None, self.ending_of(name.as_str(), &check)?),
+                Some(true) => self.sealed_ending(name.as_str(), &check)?,
+                None => (None, None),
             };
             logs.push(CheckedLog {
                 file: self.checked_file(name.as_str(), is_unread),
                 is_sealed,
+                end,
                 ending,
                 hole: holes.get(log).copied().flatten(),
                 check,
@@ -167,6 +170,38 @@ impl<'a, R: Host> Run<'a, R> {
                 },
             ) => Err(Memory),
             Err(_) => Ok(None),
+        }
+    }
+
+    /// Reads a log of format 4. Returns the byte of its file where its records end, and what follows them. None: it has no
+    /// header, or cannot be read again.
+    fn sealed_ending(
+        &self,
+        name: &str,
+        check: &Result<LogCheck, Fault>,
+    ) -> Result<(Option<u64>, Option<Ending>), Memory> {
+        match check {
+            Ok(check) if check.front.rest == Rest::Nothing => {
+                return Ok((self.size_of(name), None));
+            }
+            Ok(_) => {}
+            Err(_) => return Ok((None, None)),
+        }
+        let alloc = self.rt.alloc();
+        let Some(file) = self.read_again(name, u64::MAX)? else {
+            return Ok((None, None));
+        };
+        let Ok(bytes) = file.into_all() else {
+            return Ok((None, None));
+        };
+        match Sealed::open(alloc, bytes) {
+            Ok(log) => {
+                let reached = log.reached();
+                let end = log.first.file_at(reached.at) as u64;
+                Ok((Some(end), log.ending(alloc, reached)?))
+            }
+            Err(Fault::Memory) => Err(Memory),
+            Err(_) => Ok((None, None)),
         }
     }
 }

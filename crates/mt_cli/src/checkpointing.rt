@@ -91,15 +91,16 @@ fn write_all<R: Host>(
         advice: "delete the new folder, which is no store yet, and run it again",
     };
     let _lock = site.tell("lock", new.path, lock_at(rt, new.path))?;
+    let salt = site.salt()?;
     for part in 0..checkpoint.parts() {
         let name = format!(in rt.alloc(); "{}-{part}.mtc", new.number)?;
-        let written = write_part(&site, checkpoint, part, name.as_str());
+        let salt = salt.wrapping_add(u64::from(part));
+        let written = write_part(&site, checkpoint, salt, part, name.as_str());
         site.tell("write", name.as_str(), written)?;
     }
     // The log counts, so all parts must be there before it.
     site.sync()?;
-    let mut log = Vec::new(rt.alloc());
-    checkpoint.append_log(&mut log)?;
+    let log = checkpoint.log(rt.alloc(), salt.wrapping_add(u64::from(checkpoint.parts())))?;
     site.write(LOG, LOG, &log)?;
     site.sync()
 }
@@ -111,10 +112,11 @@ fn lock_at<R: Host>(rt: &R, path: &str) -> io::Result<R::File> {
     Ok(folder)
 }
 
-/// Writes a part into a new file of this name, in one step.
+/// Writes a part into a new file of this name and this salt, in one step.
 fn write_part<R: Host>(
     site: &Site<'_, R>,
     checkpoint: &Checkpoint<'_>,
+    salt: u64,
     part: u16,
     name: &str,
 ) -> io::Result<()>
@@ -123,7 +125,7 @@ fn write_part<R: Host>(
     let path = site.path(name)?;
     let mut file = site.begin(&path, &path)?;
     let mut out = BufWriter::with_capacity(site.rt.alloc(), PRINTED_AT_ONCE, &mut file)?;
-    checkpoint.write_part(part, &mut out)?;
+    checkpoint.write_part(site.rt.alloc(), salt, part, &mut out)?;
     out.flush()?;
     drop(out);
     site.finish(file, &path)

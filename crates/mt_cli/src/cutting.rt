@@ -2,12 +2,13 @@
 use crate::answering::PRINTED_AT_ONCE;
 use crate::halt::Halt;
 use crate::host::Host;
-use crate::intake::{LogIntake, Reached, open};
+use crate::intake::{LogIntake, Reached, open, unread};
 use crate::request::Cut;
+use crate::sealed::{Salvaged, Sealed, unopened};
 use crate::stop::Stop;
 use mt_record::{
-    Head, KeptRecords, LogFeed, Segment, Stretch, encode_head, header_at, part_header_at,
-    salvage_records,
+    Head, KeptRecords, LogFeed, Segment, Stretch, encode_head, header_at, is_sealed_part,
+    part_header_at, salvage_records,
 };
 use mt_recover::Refusal;
 use mt_words::Fault;
@@ -15,7 +16,7 @@ use std::alloc::Global;
 use std::io::{self, ErrorKind, Read, Write};
 
 /// Prints a log of complete records of the log, byte for byte, as it reads them, and tells on `err` what it leaves out. It
-/// holds only what follows the first fault or torn tail.
+/// holds only what follows the first fault or torn tail. Of a log of format 4 it holds all, and prints its text, a segment.
 pub fn cut<'a, R: Host, O: Write, E: Write>(
     rt: &R,
     path: &'a str,
@@ -26,13 +27,18 @@ pub fn cut<'a, R: Host, O: Write, E: Write>(
 ) -> Result<(), Halt<'a>> {
     let mut file = open(rt, path)?;
     if file.is_sealed() {
-        return Err(Halt::in_blocks(rt.alloc(), "cut", path));
+        if how.header.is_some() {
+            return Err(has_its_own(rt.alloc()));
+        }
+        let log = Sealed::open(rt.alloc(), file.into_all().map_err(unread)?).map_err(unopened)?;
+        let cutter = Cutter::new(rt.alloc(), log.front.head, how, out)?;
+        return Ok(cutter.cut_sealed(&log, path, is_verbose, err)?);
     }
     let (head, first) = match how.header {
         Some(head) => (head, 0),
         None => match header_at(&file.held) {
             Some((head, rest)) => (head, file.held.len().saturating_sub(rest.len())),
-            None if part_header_at(&file.held).is_some() => return Err(is_part(rt.alloc())),
+            None if has_part_header(&file.held) => return Err(is_part(rt.alloc())),
             None => return Err(Halt::from(Fault::Header { log: 0 })),
         },
     };
@@ -40,6 +46,11 @@ pub fn cut<'a, R: Host, O: Write, E: Write>(
     let log = LogIntake::new(rt.alloc(), file, head)?;
     let cutter = Cutter::new(rt.alloc(), head, how, out)?;
     Ok(cutter.cut(log, path, is_verbose, err)?)
+}
+
+/// Returns whether a file is a part, as its first bytes say.
+fn has_part_header(bytes: &[u8]) -> bool {
+    part_header_at(bytes).is_some() || is_sealed_part(bytes)
 }
 
 /// Returns that a part is not cut.
@@ -51,6 +62,18 @@ fn is_part(alloc: Global) -> Halt<'static> {
         "a part, which records prints",
         reason,
         "print it by records",
+    )
+}
+
+/// Returns that a file of format 4 takes no other header, since each of its blocks begins with a checksum of its own one.
+fn has_its_own(alloc: Global) -> Halt<'static> {
+    let reason = io::Error::new(ErrorKind::Unsupported, "its blocks go with its own header");
+    Halt::stuck(
+        alloc,
+        "cut",
+        "a file of format 4 by another header",
+        reason,
+        "leave out --header",
     )
 }
 
@@ -134,6 +157,41 @@ impl<'x, O: Write> Cutter<'x, O> {
         Ok(())
     }
 
+    /// Prints the records of a log of format 4, likewise.
+    fn cut_sealed<E: Write>(
+        self,
+        log: &Sealed,
+        path: &str,
+        is_verbose: bool,
+        err: &mut E,
+    ) -> Result<(), Refusal<'static>> {
+        let mut cutter = self;
+        cutter.print(log.records())?;
+        if cutter.how.is_skipping {
+            let behind = log.behind(cutter.alloc)?;
+            let all = log.salvage(cutter.alloc, log.reached(), &behind)?;
+            for salvaged in &all {
+                cutter.print(salvaged.kept)?;
+            }
+            cutter.out.flush()?;
+            cutter.is_cut = tell_passed(log, &all, err) || cutter.is_cut;
+        } else {
+            cutter.out.flush()?;
+            if let Some(stop) = Stop::of_sealed(cutter.alloc, log)? {
+                cutter.is_cut = true;
+                // A write error is passed over.
+                let _ = writeln!(err, "mtrecover: left out: {stop}");
+                if is_verbose {
+                    stop.tell_hints(path, err);
+                }
+            }
+        }
+        if let Some(end) = cutter.end()? {
+            end.tell(err);
+        }
+        Ok(())
+    }
+
     /// Prints those of these records that are kept.
     fn print(&mut self, records: &[u8]) -> Result<(), Refusal<'static>> {
         if records.is_empty() {
@@ -187,13 +245,31 @@ fn tell_skipped<E: Write>(before: Reached, stretches: &[Stretch<'_>], err: &mut 
         let from = end.saturating_add(stretch.kept.len());
         end = from.saturating_add(stretch.skipped.len());
         records = records.saturating_add(stretch.count);
-        let bytes = stretch.skipped.len();
-        if bytes > 0 {
-            let _ = writeln!(
-                err,
-                "mtrecover: skipped: from={from} to={end} bytes={bytes} records={records}"
-            );
-        }
+        tell_span(from, end, records, err);
+    }
+}
+
+/// Prints a line for each span of a log of format 4 that was skipped. Returns whether its last bytes were.
+fn tell_passed<E: Write>(log: &Sealed, all: &[Salvaged<'_>], err: &mut E) -> bool {
+    let mut records = log.front.count as usize;
+    let mut at = log.first.file_at(log.reached().at);
+    for salvaged in all {
+        tell_span(salvaged.from, salvaged.to, records, err);
+        records = records.saturating_add(salvaged.count);
+        at = salvaged.end;
+    }
+    tell_span(at, log.size(), records, err);
+    at < log.size()
+}
+
+/// Prints the line of a span of bytes that was skipped after so many records, unless it is empty.
+fn tell_span<E: Write>(from: usize, to: usize, records: usize, err: &mut E) {
+    let bytes = to.saturating_sub(from);
+    if bytes > 0 {
+        let _ = writeln!(
+            err,
+            "mtrecover: skipped: from={from} to={to} bytes={bytes} records={records}"
+        );
     }
 }
 

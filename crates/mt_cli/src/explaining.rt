@@ -3,9 +3,10 @@ ghost use Rattle.std.specs.Prelude.{◌≤◌, IfErr};
 
 use crate::host::{Host, Run};
 use crate::listing::Names;
+use crate::sealed::NO_HEADER;
 use mt_recover::{Failure, Refusal};
 use mt_text::Shown;
-use mt_words::{Fault, What};
+use mt_words::Fault;
 use std::io::{self, ErrorKind, Write};
 
 /// What to try if parts are there, but no logs.
@@ -13,8 +14,8 @@ const NO_LOGS_BESIDE_PARTS: &str =
     "put the logs back; parts of a checkpoint are there: resume --no-logs begins a log above its \
      end, which loses what logs had from its begin on, unless they were deleted because it stands for them";
 
-/// What to try if a log of format 4 is damaged.
-const PUT_BACK: &str = "put a good copy back: cut takes no file of format 4";
+/// What to try if a log of format 4 has lost its header.
+const PUT_BACK: &str = "put a good copy back: of a file of format 4 cut needs the header";
 
 /// What the system says if a process has too many open files (`EMFILE`).
 const TOO_MANY_OPEN: i32 = 24;
@@ -57,8 +58,7 @@ impl<'a, R: Host> Run<'a, R> {
         if let Failure::Recovery(Fault::Header { .. }) = &refusal.failure {
             let file = file_of(&refusal.failure, self.names);
             if matches!(file.map(|name| self.is_sealed(name)), Some(Ok(Some(true)))) {
-                let reason = "it is of format 4, and its header is not whole";
-                refusal.reason = Some(io::Error::new(ErrorKind::InvalidData, reason));
+                refusal.reason = Some(io::Error::new(ErrorKind::InvalidData, NO_HEADER));
             }
             return;
         }
@@ -116,10 +116,6 @@ fn advice_on(fault: &Fault) -> &'static str {
         Fault::Header { .. } => {
             "put a good copy back; else see by check what is left, and save it by cut --header: if the file goes, its updates go with it, and nothing tells"
         }
-        Fault::Record {
-            what: What::Checksum,
-            ..
-        } => PUT_BACK,
         Fault::Record { .. } => {
             "put a good copy back; else see by check and records what follows, and save it into a new file by cut --skip"
         }

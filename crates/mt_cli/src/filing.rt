@@ -6,14 +6,18 @@ use crate::cutting::cut;
 use crate::ending::WIDEST;
 use crate::halt::Halt;
 use crate::host::Host;
-use crate::intake::{Intake, LogIntake, open, unread};
+use crate::intake::{Intake, LogIntake, Reached, open, unread};
 use crate::listing::Names;
 use crate::request::{Cut, FileCommand, FileQuery};
 use crate::saving::{begin_path, finish_path, give_up_path};
+use crate::sealed::{Sealed, SealedPart, is_footer, unopened};
 use crate::stop::Stop;
-use mt_record::{Head, PartFault, PartFeed, PartHead, header_at, part_header_at};
+use mt_record::{
+    Head, PartFault, PartFeed, PartHead, entry_at, header_at, is_sealed_part, part_header_at,
+    record_at,
+};
 use mt_recover::Refusal;
-use mt_text::{Selection, write_entries, write_head, write_part_head, write_records};
+use mt_text::{Listed, Selection, write_entries, write_head, write_part_head, write_records};
 use mt_words::Fault;
 use std::alloc::Global;
 use std::io::{self, BufWriter, ErrorKind, Read, Write};
@@ -104,10 +108,16 @@ fn records<'a, R: Host, O: Write>(
     out: &mut O,
 ) -> Result<Option<Stop>, Halt<'a>> {
     let mut file = open(rt, path)?;
-    if file.is_sealed() {
-        return Err(Halt::in_blocks(rt.alloc(), "print", path));
-    }
     let mut out = BufWriter::with_capacity(rt.alloc(), PRINTED_AT_ONCE, out)?;
+    if file.is_sealed() {
+        let log = Sealed::open(rt.alloc(), file.into_all().map_err(unread)?).map_err(unopened)?;
+        return Ok(of_sealed(rt.alloc(), &log, at, selection, &mut out)?);
+    }
+    if is_sealed_part(&file.held) {
+        let bytes = file.into_all().map_err(unread)?;
+        let part = SealedPart::open(rt.alloc(), bytes).map_err(unopened)?;
+        return Ok(of_sealed_part(rt.alloc(), &part, at, selection, &mut out)?);
+    }
     let Some((head, rest)) = part_header_at(&file.held) else {
         return Ok(of_log(rt.alloc(), file, at, selection, &mut out)?);
     };
@@ -167,6 +177,54 @@ fn of_log<F: Read + Drop, O: Write>(
     }
 }
 
+/// Prints the header of a log of format 4 as that of its text, and its wanted records, each with the byte of the file where it
+/// begins. Returns where they stop before the bytes do.
+fn of_sealed<O: Write>(
+    alloc: Global,
+    log: &Sealed,
+    at: Option<u64>,
+    selection: &Selection,
+    out: &mut O,
+) -> Result<Option<Stop>, Refusal<'static>> {
+    let head = log.front.head;
+    write_head(&head, selection.notation, out)?;
+    let mut listed = selection.begin(log.start(at));
+    for _ in 0..u64::MAX {
+        let rest = log.first.text.get(listed.at..).unwrap_or(&[]);
+        let Some((_, after)) = record_at(alloc, head.format, listed.latest, rest)? else {
+            break;
+        };
+        if listed.left == 0 {
+            break;
+        }
+        let record = rest
+            .get(..rest.len().saturating_sub(after.len()))
+            .unwrap_or(&[]);
+        let placed = Listed {
+            at: log.first.file_at(listed.at),
+            ..listed
+        };
+        let next = write_records(alloc, head.format, record, placed, selection, out)?;
+        listed = Listed {
+            at: listed.at.saturating_add(record.len()),
+            ..next
+        };
+    }
+    out.flush()?;
+    if listed.left == 0 {
+        return Ok(None);
+    }
+    if at.is_none() {
+        return Stop::of_sealed(alloc, log);
+    }
+    let before = Reached {
+        at: listed.at,
+        latest: listed.latest,
+        count: listed.number,
+    };
+    Stop::at_sealed(alloc, log, before)
+}
+
 /// The header by which a log is read that has lost its own.
 const UNKNOWN: Head = Head {
     format: WIDEST,
@@ -194,13 +252,64 @@ fn of_part<O: Write>(
     if listed.left == 0 {
         return Ok(None);
     }
-    if at.is_some() {
-        return Ok(Stop::at_entry(bytes, listed.at));
-    }
-    if end.is_some() {
+    if at.is_some() && is_footer(bytes.get(listed.at..).unwrap_or(&[])) {
         return Ok(None);
     }
-    Ok(Stop::of_entries(&listed, bytes))
+    Ok(stop_in_part(bytes, &listed, at, end))
+}
+
+/// Prints the header of a part of format 4 as that of its text, and its wanted entries, each with the byte of the file where it
+/// begins. Returns where they stop before the footer does.
+fn of_sealed_part<O: Write>(
+    alloc: Global,
+    part: &SealedPart,
+    at: Option<u64>,
+    selection: &Selection,
+    out: &mut O,
+) -> Result<Option<Stop>, Refusal<'static>> {
+    let head = part.head;
+    let end = end_of(alloc, &part.bytes)?;
+    write_part_head(&head, end, selection.notation, out)?;
+    let mut listed = selection.begin(part.start(at));
+    for _ in 0..u64::MAX {
+        let rest = part.body.text.get(listed.at..).unwrap_or(&[]);
+        let Some((_, after)) = entry_at(alloc, head.format, rest)? else {
+            break;
+        };
+        if listed.left == 0 {
+            break;
+        }
+        let entry = rest
+            .get(..rest.len().saturating_sub(after.len()))
+            .unwrap_or(&[]);
+        let placed = Listed {
+            at: part.body.file_at(listed.at),
+            ..listed
+        };
+        let next = write_entries(alloc, head.format, entry, placed, selection, out)?;
+        listed = Listed {
+            at: listed.at.saturating_add(entry.len()),
+            ..next
+        };
+    }
+    out.flush()?;
+    if listed.left == 0 || at.is_some() && part.ends_at(listed.at) {
+        return Ok(None);
+    }
+    let placed = Listed {
+        at: part.body.file_at(listed.at),
+        ..listed
+    };
+    Ok(stop_in_part(&part.bytes, &placed, at, end))
+}
+
+/// Returns where the entries of a part stop, which were read from this byte on, or from the first one on up to its end.
+fn stop_in_part(bytes: &[u8], listed: &Listed, at: Option<u64>, end: Option<u64>) -> Option<Stop> {
+    match (at, end) {
+        (Some(_), _) => Stop::at_entry(bytes, listed.at),
+        (None, Some(_)) => None,
+        (None, None) => Stop::of_entries(listed, bytes),
+    }
 }
 
 /// Returns where the checkpoint ends of which the bytes are a part. None: the bytes are no part.

@@ -140,6 +140,10 @@ pub const NUMBER: Argument =
 pub const PART_LIMIT: Argument = argument! { "limit", UpTo("BYTES", MOST_BYTES, "1073741824"),
     "Begin another part rather than write more bytes: 1 to 1073741824" };
 
+/// The most bytes of the text of a part, whose file then has at most `MOST_BYTES`: its blocks have 65,536 bytes and more, and
+/// take 16 more each.
+pub const MOST_TEXT: u64 = MOST_BYTES - 1_048_576;
+
 pub const EXISTS: Argument =
     argument! { "exists", Flag, "Print nothing: the status is 0 if the key is there, 4 if not" };
 
@@ -239,7 +243,7 @@ const OTHERS: &[Subcommand] = subcommands! {
 /// Returns the grammar of the arguments that the program takes. Err: out of memory.
 pub fn grammar<'a>(alloc: Global) -> Result<Command<'a>, AllocError> {
     let mut program = Command::new(alloc, "mtrecover")
-        .version("1.0 (file formats 1 to 3, reads logs of 4)")
+        .version("1.0 (file formats 1 to 4)")
         .about(
             "Recovers the store of a folder of update logs and checkpoint parts and answers queries on it; audits, checks, resumes, prints and cuts logs",
         )

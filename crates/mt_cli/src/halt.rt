@@ -56,22 +56,6 @@ impl<'a> Halt<'a> {
     }
 }
 
-impl<'a> Halt<'a> {
-    /// Returns that this is not done with the file of this name, which is of format 4, or that memory ran out.
-    pub fn in_blocks(alloc: Global, doing: &'static str, name: &str) -> Halt<'a> {
-        let name = match format!(in alloc; "{name}, of format 4") {
-            Ok(name) => name,
-            Err(refused) => return Halt::from(refused),
-        };
-        Halt::Stuck {
-            doing,
-            name,
-            reason: io::Error::new(ErrorKind::Unsupported, "its records stand in blocks"),
-            advice: "write the store of its folder into a new one by checkpoint",
-        }
-    }
-}
-
 impl Halt<'_> {
     /// Prints it on `err`, with a second line if there are names, and returns the exit status, also after a write error.
     pub fn tell<E: Write>(&self, names: Option<&Names>, err: &mut E) -> u8

@@ -7,13 +7,24 @@ use mt_recover::{Failure, Refusal};
 use std::env::Env;
 use std::fs::{File, Files, TryLockError};
 use std::io::{self, ErrorKind, Write};
+use std::random::RandomSource;
 use std::thread::Threads;
 use std::time::Clock;
 
 /// What the program needs of the system.
-pub trait Host: AllocGlobal + Clock + Clone + Drop + Env + Files<File: Lock> + Threads + Sync {}
+pub trait Host: AllocGlobal
+    + Clock
+    + Clone
+    + Drop
+    + Env
+    + Files<File: Lock>
+    + RandomSource
+    + Threads
+    + Sync {}
 
-impl<R: AllocGlobal + Clock + Clone + Drop + Env + Files<File: Lock> + Threads + Sync> Host for R {}
+impl<
+    R: AllocGlobal + Clock + Clone + Drop + Env + Files<File: Lock> + RandomSource + Threads + Sync,
+> Host for R {}
 
 /// A command on the files of a folder.
 #[derive(Drop)]

@@ -54,6 +54,14 @@ impl<F: Read + Drop> Intake<F> {
         Ok((count > 0).then_some(before))
     }
 
+    /// Reads to the end of the file, and returns all of it, if no byte was passed. Err: read error, or out of memory.
+    pub fn into_all(self) -> io::Result<Vec<u8>> {
+        let mut file = self;
+        file.read(u64::MAX)?;
+        let Intake { held, .. } = file;
+        Ok(held)
+    }
+
     /// Reads this number of pieces, or to the end of the file. Err: read error, or out of memory.
     pub fn read(&mut self, pieces: u64) -> io::Result<()> {
         for _ in 0..pieces {

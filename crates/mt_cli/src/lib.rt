@@ -46,6 +46,7 @@ mod resuming;
 mod row;
 mod running;
 mod saving;
+mod sealed;
 mod shell;
 mod stop;
 mod texts;

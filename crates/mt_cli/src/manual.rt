@@ -35,7 +35,7 @@ test \\-e BACKUP || { cp \\-a DIR/. BACKUP.new && sync && mv BACKUP.new BACKUP; 
 mtrecover resume DIR
 .fi
 .SH BUGS
-The formats have no checksum: a changed value is not seen. Nor is a log that is missing whole.
+Formats 1 to 3 have no checksum: a changed value is not seen. Nor is a log that is missing whole.
 .SH SEE ALSO
 .BR mtdump (1),
 share/doc/mtrecover/RUNBOOK.md below the folder of the installation

@@ -1,5 +1,4 @@
 //! Opens the files of a folder.
-use crate::halt::Halt;
 use crate::host::{Host, Run};
 use crate::intake::Intake;
 use mt_record::is_sealed;
@@ -162,14 +161,6 @@ impl<'a, R: Host> Run<'a, R> {
             Ok(_) => Ok(Some(is_sealed(&front))),
             Err(error) if error.kind() == ErrorKind::OutOfMemory => Err(Memory),
             Err(_) => Ok(None),
-        }
-    }
-
-    /// Refuses a log of format 4, with which this is not done.
-    pub fn expect_unsealed(&self, name: &str, doing: &'static str) -> Result<(), Halt<'static>> {
-        match self.is_sealed(name)? {
-            Some(true) => Err(Halt::in_blocks(self.rt.alloc(), doing, name)),
-            Some(false) | None => Ok(()),
         }
     }
 

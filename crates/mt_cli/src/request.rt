@@ -128,7 +128,7 @@ pub struct NewFolder<'a> {
     pub path: &'a str,
     /// The number of the checkpoint.
     pub number: u32,
-    /// The most bytes of a part that has several entries.
+    /// The most bytes of the text of a part that has several entries.
     pub limit: usize,
 }
 

@@ -2,15 +2,14 @@
 use crate::answering::PRINTED_AT_ONCE;
 use crate::beginning::{NewLog, end_row, log_row};
 use crate::caveat::Caveat;
-use crate::checked::CheckedPart;
+use crate::checked::{CheckedPart, unused_worker};
 use crate::fates::{PartState, numbers_of};
 use crate::halt::Halt;
 use crate::host::{Host, Run};
 use crate::request::Resume;
 use crate::row::{Cell, write_row};
 use crate::saving::Site;
-use mt_record::{record_at, resume_log};
-use mt_words::Format;
+use mt_record::resume_log;
 use std::io::{BufWriter, Write};
 
 impl<'a, R: Host> Run<'a, R> {
@@ -31,7 +30,6 @@ impl<'a, R: Host> Run<'a, R> {
         }
         for name in &self.names.logs {
             site.expect(name.as_str(), false)?;
-            self.expect_unsealed(name.as_str(), "resume")?;
         }
         let checked = self.check_all(err)?;
         let losses = checked.losses();
@@ -44,6 +42,7 @@ impl<'a, R: Host> Run<'a, R> {
         if how.is_strict && losses.is_some() {
             return Ok(losses.map(Caveat::Losses));
         }
+        let salt = site.salt()?;
         let base = &start.choice.chosen;
         let chosen = base.as_ref().map(|checkpoint| checkpoint.number);
         let begun = if start.window.cutoff == u64::MAX {
@@ -51,7 +50,9 @@ impl<'a, R: Host> Run<'a, R> {
             self.expect_room(self.names.logs.len().saturating_add(kept))?;
             let end = base.as_ref().map_or(0, |checkpoint| checkpoint.end);
             let last = self.last_below_end(&site)?.max(end);
-            Some(NewLog::above(&site, last, start.window.begin)?)
+            let worker = unused_worker(self.rt.alloc(), &checked.logs)?;
+            let salt = salt.wrapping_add(self.names.logs.len() as u64);
+            Some(NewLog::above(&site, salt, worker, last, start.window.begin)?)
         } else {
             None
         };
@@ -80,7 +81,8 @@ impl<'a, R: Host> Run<'a, R> {
         }
         let mut last = cutoff;
         for (log, name) in self.names.logs.iter().enumerate() {
-            if replace_log(&site, log, name.as_str(), cutoff, how, &mut out)? {
+            let salt = salt.wrapping_add(log as u64);
+            if replace_log(&site, log, name.as_str(), cutoff, salt, how, &mut out)? {
                 last = u64::MAX;
             }
         }
@@ -145,35 +147,36 @@ fn spoil<R: Host>(
     Ok(())
 }
 
-/// Replaces a log, if it is not resumed yet, prints its line, and returns whether it was ended.
+/// Replaces a log, if it is not resumed yet, prints its line, and returns whether it was ended. A log of format 4 is always
+/// replaced, by a file with this salt: so no block of the old file is one of the new file, wherever the disk puts it.
 fn replace_log<R: Host, O: Write>(
     site: &Site<'_, R>,
     log: usize,
     name: &str,
     cutoff: u64,
+    salt: u64,
     how: Resume,
     out: &mut O,
 ) -> Result<bool, Halt<'static>> {
     let bytes = site.read(name)?;
-    let new = match resume_log(site.rt.alloc(), &bytes, cutoff) {
+    let new = match resume_log(site.rt.alloc(), &bytes, cutoff, salt) {
         Ok(new) => new,
         Err(fault) => return Err(Halt::from(fault.of_log(log))),
     };
     if new.changed && !how.is_dry {
-        site.replace(name, &new.header, new.records, &new.marks)?;
+        site.replace(name, &new.front, new.records, &new.marks)?;
     }
-    // An ended log has a second mark.
-    let ended = match record_at(site.rt.alloc(), Format::Two, 0, &new.marks)? {
-        Some((_, rest)) => !rest.is_empty(),
-        None => false,
-    };
     let after = new
-        .header
+        .front
         .len()
         .saturating_add(new.records.len())
         .saturating_add(new.marks.len());
     let state = if new.changed { "replaced" } else { "kept" };
     let sizes = [new.dropped, bytes.len() as u64, after as u64];
-    write_row(&log_row(log, name, state, sizes, ended), how.is_json, out)?;
-    Ok(ended)
+    write_row(
+        &log_row(log, name, state, sizes, new.ended),
+        how.is_json,
+        out,
+    )?;
+    Ok(new.ended)
 }

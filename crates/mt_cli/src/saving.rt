@@ -1,13 +1,15 @@
 //! Writes, replaces and deletes the files of a folder. A crash leaves of each file the old bytes or the new ones.
 use crate::halt::Halt;
 use crate::host::Host;
-use mt_record::PART_HEADER_BYTES;
+use crate::sealed::PART_HEADER;
+use mt_record::{PART_HEADER_BYTES, is_sealed_part};
 use mt_recover::{Failure, Refusal};
 use std::alloc::AllocError;
 use std::fs::{self, File, OpenFile, OpenOptions};
 use std::io::{self, ErrorKind, Read, Write};
 use std::os::unix::fs::{MetadataExt, OpenOptionsExt, chown};
 use std::path::{Path, PathBuf};
+use std::random::RandomSource;
 
 /// What is added to the path of a file while it is written. No log and no part has such a name.
 const UNFINISHED: &str = "new";
@@ -43,6 +45,15 @@ impl<'a, R: Host> Site<'a, R> {
             ("replace", "put a file in place of it")
         };
         Err(Halt::stuck(self.rt.alloc(), doing, name, error, advice))
+    }
+
+    /// Draws the salt of a file of format 4 that is written. If several are, each further one takes the next number, so that no
+    /// two have the same.
+    pub fn salt(&self) -> Result<u64, Halt<'static>> {
+        let mut bytes = [0; 8];
+        let drawn = self.rt.fill_bytes(&mut bytes);
+        self.tell("read", "random bytes", drawn)?;
+        Ok(u64::from_be_bytes(bytes))
     }
 
     /// Reads the file of this name.
@@ -126,8 +137,11 @@ impl<'a, R: Host> Site<'a, R> {
     fn spoil_file(&self, path: &PathBuf) -> io::Result<()> {
         let mut header = Vec::new(self.rt.alloc());
         File::open(self.rt, path)?
-            .take(PART_HEADER_BYTES as u64)
+            .take(PART_HEADER as u64)
             .read_to_end(&mut header)?;
+        if !is_sealed_part(&header) {
+            header.truncate(PART_HEADER_BYTES);
+        }
         self.put(path, path, &header, &[], &[])
     }
 

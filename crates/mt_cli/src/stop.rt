@@ -4,8 +4,9 @@ ghost use Rattle.std.specs.Prelude.{◌≤◌};
 use crate::caveat::plural;
 use crate::ending::{Again, Ending};
 use crate::hints::MANY_ZEROS;
-use crate::intake::LogIntake;
-use mt_record::{FOOTER_BYTES, Rest, footer_of};
+use crate::intake::{LogIntake, Reached};
+use crate::sealed::Sealed;
+use mt_record::Rest;
 use mt_recover::Refusal;
 use mt_text::Listed;
 use mt_words::What;
@@ -55,6 +56,39 @@ impl Stop {
         }
     }
 
+    /// Returns where the records of a log of format 4 stop. None: nothing follows them. Err: out of memory.
+    pub fn of_sealed(alloc: Global, log: &Sealed) -> Result<Option<Stop>, Refusal<'static>> {
+        let fault = match log.front.rest {
+            Rest::Nothing => return Ok(None),
+            Rest::Torn => Wrong::Torn,
+            Rest::Faulty(what) => Wrong::Record(what),
+        };
+        match Stop::at_sealed(alloc, log, log.reached())? {
+            Some(stop) => Ok(Some(Stop {
+                reason: Some((log.front.count, fault)),
+                ..stop
+            })),
+            None => Ok(None),
+        }
+    }
+
+    /// Returns that the records of a log of format 4 stop where they were read. None: no byte follows. Err: out of memory.
+    pub fn at_sealed(
+        alloc: Global,
+        log: &Sealed,
+        before: Reached,
+    ) -> Result<Option<Stop>, Refusal<'static>> {
+        let Some(ending) = log.ending(alloc, before)? else {
+            return Ok(None);
+        };
+        Ok(Some(Stop {
+            name: "record",
+            at: log.first.file_at(before.at),
+            reason: None,
+            ending,
+        }))
+    }
+
     /// Returns where the entries of a broken part stop, all of which were counted.
     pub fn of_entries(listed: &Listed, bytes: &[u8]) -> Option<Stop> {
         Some(Stop {
@@ -65,11 +99,10 @@ impl Stop {
         })
     }
 
-    /// Returns that entries stop at this byte. None: no byte follows, or just a footer.
+    /// Returns that entries stop at this byte. None: no byte follows.
     pub fn at_entry(bytes: &[u8], at: usize) -> Option<Stop> {
         let rest = bytes.get(at..)?;
-        let is_footer = rest.len() == FOOTER_BYTES && footer_of(rest).is_some();
-        if rest.is_empty() || is_footer {
+        if rest.is_empty() {
             return None;
         }
         Some(Stop {

@@ -26,8 +26,7 @@ struct Outlook {
 impl<'a, R: Host> Run<'a, R> {
     /// Prints a line for each way to cut all logs in which a record is damaged, or seems torn though records follow it: what
     /// recovery would find then, or the fault that it would name, which ends the line, since it has blanks. Reads the files
-    /// again for each. Prints nothing if there is no such log, one of them is of format 4, or one of the files cannot be read
-    /// again.
+    /// again for each. Prints nothing if there is no such log, or one of the files cannot be read again.
     pub fn write_ways<W: Write>(
         &self,
         checked: &Checked<'_>,
@@ -37,9 +36,6 @@ impl<'a, R: Host> Run<'a, R> {
         let mut damaged = Vec::new(self.rt.alloc());
         for (number, log) in checked.logs.iter().enumerate() {
             if log.is_damaged() {
-                if log.is_sealed == Some(true) {
-                    return Ok(());
-                }
                 damaged.push(number)?;
             }
         }

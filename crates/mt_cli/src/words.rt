@@ -4,9 +4,9 @@ ghost use Rattle.std.specs.Prelude.{◌≤◌, IfErr};
 use crate::explaining::{or_tell, tell};
 use crate::grammar::{
     AT, BELOW, CHART, COLUMNS, COUNT, DRY_RUN, EXISTS, FILE_BYTES, FILES, FOLDER, FROM, HEADER,
-    JSON, KEY, LIMIT, LOG, NO_LOGS, NUMBER, OUT, OUTPUT, PART_LIMIT, PIECES, PREFIX, PROGRESS,
-    RECORD_KEY, SKIP, STATUS, STRICT, STRICT_RESUME, STRICT_SHELL, TEXT, TO, VERBOSE, WIDTH,
-    WORKERS, grammar,
+    JSON, KEY, LIMIT, LOG, MOST_TEXT, NO_LOGS, NUMBER, OUT, OUTPUT, PART_LIMIT, PIECES, PREFIX,
+    PROGRESS, RECORD_KEY, SKIP, STATUS, STRICT, STRICT_RESUME, STRICT_SHELL, TEXT, TO, VERBOSE,
+    WIDTH, WORKERS, grammar,
 };
 use crate::listing::Names;
 use crate::progress::Telling;
@@ -141,7 +141,7 @@ fn of_folder<'a>(
             FolderCommand::Checkpoint(NewFolder {
                 path: found(matches.get_str(OUT.name))?,
                 number: found(matches.get_one(NUMBER.name))?,
-                limit: limit as usize,
+                limit: limit.min(MOST_TEXT) as usize,
             })
         }
         "audit" => FolderCommand::Audit,

@@ -1,0 +1,367 @@
+//! A file of format 4 that is held as a whole: its text, and where each byte of this stands in the file.
+use crate::ending::{Again, Ending};
+use crate::hints::zeros_at_end;
+use crate::intake::Reached;
+use mt_block::{FRAME_BYTES, PartHeader, find_head, next_block, part_header_at};
+use mt_record::{
+    BlockAt, FOOTER_BYTES, KeptRecords, LogFeed, LogFront, OpenedFile, PartHead, footer_of,
+    open_file, record_at, salvage_records,
+};
+use mt_recover::{Failure, Refusal};
+use mt_words::{Fault, Format, Memory};
+use std::alloc::Global;
+use std::io::{self, ErrorKind};
+
+/// The bytes of a part's header, of a log's, and of the header of a log's text.
+pub const PART_HEADER: usize = 36;
+
+const HEADER: usize = 44;
+
+const TEXT_HEADER: usize = 20;
+
+/// The bytes of a block before its body.
+const BEFORE_BODY: usize = 12;
+
+/// What stands in blocks that follow one another.
+#[derive(Drop)]
+pub struct Piece {
+    pub text: Vec<u8>,
+    blocks: Vec<BlockAt>,
+    /// The byte of the file where the blocks end.
+    end: usize,
+}
+
+impl Piece {
+    /// Reads what stands in the blocks with this mark from this byte of a file on.
+    fn read(alloc: Global, mark: u32, bytes: &[u8], at: usize) -> Result<Piece, Memory> {
+        let mut piece = Piece {
+            text: Vec::new(alloc),
+            blocks: Vec::new(alloc),
+            end: at,
+        };
+        for _ in 0..u64::MAX {
+            let rest = bytes.get(piece.end..).unwrap_or(&[]);
+            let Ok(Some((body, _))) = next_block(mark, rest) else {
+                break;
+            };
+            piece.blocks.push(BlockAt {
+                file: piece.end,
+                text: piece.text.len(),
+            })?;
+            piece.text.extend_from_slice(body)?;
+            piece.end = piece
+                .end
+                .saturating_add(FRAME_BYTES)
+                .saturating_add(body.len());
+        }
+        Ok(piece)
+    }
+
+    /// Returns the byte of the file where this byte of the text stands, or where the blocks end, if it has no such byte.
+    pub fn file_at(&self, text: usize) -> usize {
+        if text >= self.text.len() {
+            return self.end;
+        }
+        let before = self.blocks.partition_point(|block| block.text <= text);
+        match self.blocks.get(before.saturating_sub(1)) {
+            Some(block) => block
+                .file
+                .saturating_add(BEFORE_BODY)
+                .saturating_add(text.saturating_sub(block.text)),
+            None => self.end,
+        }
+    }
+
+    /// Returns the first byte of the records or entries in the text that stands at this byte of the file or behind it.
+    fn text_at(&self, file: usize) -> usize {
+        let mut found = TEXT_HEADER;
+        for block in &self.blocks {
+            let body = block.file.saturating_add(BEFORE_BODY);
+            if body > file {
+                return found.min(block.text);
+            }
+            found = block.text.saturating_add(file.saturating_sub(body));
+        }
+        found.min(self.text.len())
+    }
+}
+
+/// A log of format 4.
+#[derive(Drop)]
+pub struct Sealed {
+    bytes: Vec<u8>,
+    /// What its blocks begin with.
+    mark: u32,
+    /// How far it is a log. Its bytes are those of its text.
+    pub front: LogFront,
+    /// Its text, up to the end or the first damage.
+    pub first: Piece,
+}
+
+/// Records that go on after damage.
+#[derive(Clone, Copy)]
+pub struct Salvaged<'s> {
+    /// The records, one after the other, and their number.
+    pub kept: &'s [u8],
+    pub count: usize,
+    /// The bytes of the file where those before them end, and where they begin and end.
+    pub from: usize,
+    pub to: usize,
+    pub end: usize,
+}
+
+impl Sealed {
+    /// Opens the log of these bytes. Err: it has no header, or out of memory.
+    pub fn open(alloc: Global, bytes: Vec<u8>) -> Result<Sealed, Fault> {
+        let mut feed: LogFeed<KeptRecords> = LogFeed::keeping(alloc);
+        // The feed keeps a fault.
+        let _ = feed.feed(&bytes);
+        let front = match feed.front() {
+            Ok(front) => front,
+            Err(fault) => return Err(fault.of_log(0)),
+        };
+        let opened = match open_file(alloc, &bytes) {
+            Ok(opened) => opened,
+            Err(fault) => return Err(fault.of_log(0)),
+        };
+        let Some(opened) = opened else {
+            return Err(Fault::Header { log: 0 });
+        };
+        let OpenedFile {
+            header,
+            text,
+            blocks,
+            ..
+        } = opened;
+        let end = match blocks.last() {
+            Some(block) => block
+                .file
+                .saturating_add(FRAME_BYTES)
+                .saturating_add(text.len().saturating_sub(block.text)),
+            None => HEADER,
+        };
+        Ok(Sealed {
+            mark: header.mark(),
+            bytes,
+            front,
+            first: Piece { text, blocks, end },
+        })
+    }
+
+    /// Returns how far its records are read, by the bytes of its text.
+    pub fn reached(&self) -> Reached {
+        Reached {
+            at: self.front.bytes as usize,
+            latest: self.front.latest,
+            count: self.front.count,
+        }
+    }
+
+    /// Returns the bytes of its complete records.
+    pub fn records(&self) -> &[u8] {
+        let text = self.first.text.as_slice();
+        text.get(TEXT_HEADER..self.reached().at).unwrap_or(&[])
+    }
+
+    /// Returns the byte of the text where reading begins: from this byte of the file on, or from the first record on.
+    pub fn start(&self, file: Option<u64>) -> usize {
+        match file {
+            Some(file) => self.first.text_at(file as usize),
+            None => TEXT_HEADER,
+        }
+    }
+
+    /// Returns the number of its bytes.
+    pub fn size(&self) -> usize {
+        self.bytes.len()
+    }
+
+    /// Returns what stands in the whole blocks behind the first damage, wherever they are.
+    pub fn behind(&self, alloc: Global) -> Result<Vec<Piece>, Memory> {
+        let mut pieces = Vec::new(alloc);
+        let mut at = self.first.end;
+        for _ in 0..u64::MAX {
+            match next_block(self.mark, self.bytes_from(at)) {
+                Ok(Some(_)) => {
+                    let piece = Piece::read(alloc, self.mark, &self.bytes, at)?;
+                    at = piece.end;
+                    pieces.push(piece)?;
+                }
+                // The end of the file, which may be torn.
+                Ok(None) => break,
+                Err(behind) => {
+                    let passed = self.bytes.len().saturating_sub(behind.len());
+                    at = passed.saturating_add(find_head(self.mark, behind));
+                }
+            }
+        }
+        Ok(pieces)
+    }
+
+    fn bytes_from(&self, at: usize) -> &[u8] {
+        self.bytes.get(at..).unwrap_or(&[])
+    }
+
+    /// Returns the records that go on from where those before were read, in the text and in what is behind.
+    pub fn salvage<'s>(
+        &'s self,
+        alloc: Global,
+        before: Reached,
+        behind: &'s [Piece],
+    ) -> Result<Vec<Salvaged<'s>>, Memory> {
+        let mut all = Vec::new(alloc);
+        let mut latest = before.latest;
+        let mut from = self.first.file_at(before.at);
+        latest = self.salvage_in(alloc, &self.first, before.at, latest, &mut from, &mut all)?;
+        for piece in behind {
+            latest = self.salvage_in(alloc, piece, 0, latest, &mut from, &mut all)?;
+        }
+        Ok(all)
+    }
+
+    /// Appends the records of a piece from this byte of it on. Returns the timestamp of the last one, or `latest`.
+    fn salvage_in<'s>(
+        &self,
+        alloc: Global,
+        piece: &'s Piece,
+        start: usize,
+        latest: u64,
+        from: &mut usize,
+        all: &mut Vec<Salvaged<'s>>,
+    ) -> Result<u64, Memory> {
+        let format = self.front.head.format;
+        let text = piece.text.get(start..).unwrap_or(&[]);
+        let mut at = start;
+        let mut latest = latest;
+        for stretch in &salvage_records(alloc, format, latest, text)? {
+            let end = at.saturating_add(stretch.kept.len());
+            if stretch.count > 0 {
+                all.push(Salvaged {
+                    kept: stretch.kept,
+                    count: stretch.count,
+                    from: *from,
+                    to: piece.file_at(at),
+                    end: piece.file_at(end),
+                })?;
+                latest = last_in(alloc, format, latest, stretch.kept)?;
+                *from = piece.file_at(end);
+            }
+            at = end.saturating_add(stretch.skipped.len());
+        }
+        Ok(latest)
+    }
+
+    /// Returns what follows the records that were read so far, from its beginning or from elsewhere. None: nothing.
+    pub fn ending(&self, alloc: Global, before: Reached) -> Result<Option<Ending>, Memory> {
+        let rest = self.bytes_from(self.first.file_at(before.at));
+        if rest.is_empty() {
+            return Ok(None);
+        }
+        let behind = self.behind(alloc)?;
+        let all = self.salvage(alloc, before, &behind)?;
+        let mut records: usize = 0;
+        for salvaged in &all {
+            records = records.saturating_add(salvaged.count);
+        }
+        Ok(Some(Ending {
+            bytes: rest.len(),
+            zeros: zeros_at_end(rest),
+            again: all.first().map(|first| Again {
+                at: first.to,
+                records,
+            }),
+            hints: None,
+        }))
+    }
+}
+
+/// A part of format 4.
+#[derive(Drop)]
+pub struct SealedPart {
+    pub bytes: Vec<u8>,
+    /// The header of its text.
+    pub head: PartHead,
+    /// Its entries and its footer, up to its end or to what is broken.
+    pub body: Piece,
+}
+
+impl SealedPart {
+    /// Opens the part of these bytes. Err: it has no header, or out of memory.
+    pub fn open(alloc: Global, bytes: Vec<u8>) -> Result<SealedPart, Fault> {
+        let Some((header, rest)) = part_header_at(&bytes) else {
+            return Err(Fault::Header { log: 0 });
+        };
+        let first = bytes.len().saturating_sub(rest.len());
+        let body = match Piece::read(alloc, header.mark(), &bytes, first) {
+            Ok(body) => body,
+            Err(Memory) => return Err(Fault::Memory),
+        };
+        let PartHeader {
+            number,
+            part,
+            parts,
+            begin,
+            ..
+        } = header;
+        let head = PartHead {
+            format: Format::Two,
+            number,
+            begin,
+            part,
+            parts,
+        };
+        Ok(SealedPart { bytes, head, body })
+    }
+
+    /// Returns the byte of the body where reading begins: from this byte of the file on, or from the first entry on.
+    pub fn start(&self, file: Option<u64>) -> usize {
+        file.map_or(0, |file| self.body.text_at(file as usize))
+    }
+
+    /// Returns whether just a footer is left of it behind this byte of its body.
+    pub fn ends_at(&self, at: usize) -> bool {
+        let rest = self.body.text.get(at..).unwrap_or(&[]);
+        self.body.end == self.bytes.len() && is_footer(rest)
+    }
+}
+
+/// Returns whether these bytes are just a footer.
+pub fn is_footer(bytes: &[u8]) -> bool {
+    bytes.len() == FOOTER_BYTES && footer_of(bytes).is_some()
+}
+
+/// Returns the text of a log of these bytes: that of the file of format 4 that was opened, or else the bytes.
+pub fn text_in<'t>(opened: &'t Option<OpenedFile>, bytes: &'t [u8]) -> &'t [u8] {
+    match opened {
+        Some(file) => &file.text,
+        None => bytes,
+    }
+}
+
+/// Returns why a file of format 4 that is the only one of a command is not opened.
+pub fn unopened(fault: Fault) -> Refusal<'static> {
+    match fault {
+        Fault::Header { .. } => {
+            let reason = io::Error::new(ErrorKind::InvalidData, NO_HEADER);
+            Refusal::of(Failure::Recovery(fault), reason)
+        }
+        fault => Refusal::from(fault),
+    }
+}
+
+/// What is wrong with a file of format 4 that has lost its header.
+pub const NO_HEADER: &str = "it is of format 4, and its header is not whole";
+
+/// Returns the timestamp of the last of these records, or `latest`.
+fn last_in(alloc: Global, format: Format, latest: u64, records: &[u8]) -> Result<u64, Memory> {
+    let mut latest = latest;
+    let mut rest = records;
+    for _ in 0..u64::MAX {
+        let Some((record, after)) = record_at(alloc, format, latest, rest)? else {
+            break;
+        };
+        latest = record.timestamp();
+        rest = after;
+    }
+    Ok(latest)
+}
