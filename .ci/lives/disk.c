@@ -1,6 +1,7 @@
 /* A machine in memory: a program that is linked with this file makes these calls in place of the C library's, those of C and
  * those of std of Rust. Its disk has the one folder /sim. A crash leaves of each file a beginning, with what was synced, and
- * some of the changes of names since the folder was synced. */
+ * some of the changes of names since the folder was synced. Behind what was synced a file of format 4 may have anything: zeros,
+ * bytes of other files, parts of what was written. */
 #define _GNU_SOURCE
 #undef malloc /* test_malloc elsewhere, and so on */
 #undef calloc
@@ -15,6 +16,7 @@
 #include <string.h>
 #include <sys/file.h>
 #include <sys/mman.h>
+#include <sys/random.h>
 #include <sys/stat.h>
 #include <sys/syscall.h>
 #include <unistd.h>
@@ -26,6 +28,7 @@ struct file {
     bool is_used, is_lost; /* lost: a sync failed, and no later one keeps its bytes */
     mode_t mode;
     size_t length, synced;
+    size_t had; /* so many bytes are not zeros alone: those behind `length` are of files that were here before */
     uint8_t bytes[ROOM];
 };
 
@@ -50,6 +53,7 @@ static struct shared {
     struct change changes[CHANGES];
     unsigned change_count;
     bool is_folder_lost;
+    unsigned had; /* so many files were ever used */
     struct file files[FILES];
 } *disk;
 struct machine *machine;
@@ -168,9 +172,10 @@ static int new_file(mode_t mode) {
     while (file < FILES && disk->files[file].is_used)
         file++;
     must(file < FILES, "too many files");
-    memset(&disk->files[file], 0, offsetof(struct file, bytes));
+    memset(&disk->files[file], 0, offsetof(struct file, had));
     disk->files[file].is_used = true;
     disk->files[file].mode = mode;
+    disk->had = file < (int)disk->had ? disk->had : (unsigned)file + 1;
     return file;
 }
 
@@ -288,6 +293,7 @@ ssize_t write(int number, const void *bytes, size_t size) {
     must(file->length + count <= ROOM && opened[number - FIRST].at == file->length, "a file is too long");
     memcpy(file->bytes + file->length, bytes, count);
     opened[number - FIRST].at = file->length += count;
+    file->had = file->had > file->length ? file->had : file->length;
     return error > 0 ? answer(error) : (ssize_t)count;
 }
 
@@ -420,6 +426,13 @@ int closedir(DIR *folder) {
     return 0;
 }
 
+ssize_t getrandom(void *bytes, size_t size, unsigned flags) {
+    (void)flags;
+    for (size_t n = 0; n < size; n++)
+        ((uint8_t *)bytes)[n] = (uint8_t)any_below(256);
+    return (ssize_t)size;
+}
+
 /* ---- The machine ---- */
 
 void create_machine(void) {
@@ -431,15 +444,55 @@ void begin_machine(uint64_t seed) {
     machine->random = seed;
     disk->now.count = disk->kept.count = disk->change_count = 0;
     disk->is_folder_lost = false;
-    for (int n = 0; n < FILES; n++)
-        disk->files[n].is_used = false;
+    for (unsigned n = 0; n < disk->had; n++)
+        memset(&disk->files[n], 0, offsetof(struct file, bytes) + disk->files[n].had);
+    disk->had = 0;
+}
+
+void lay(const char *name, const void *bytes, size_t length) {
+    struct change change = {.file = new_file(0644)};
+    struct file *file = &disk->files[change.file];
+    memcpy(file->bytes, bytes, length);
+    file->length = file->synced = file->had = length;
+    strcpy(change.to, name);
+    apply(&disk->now, &change);
+    disk->kept = disk->now;
+}
+
+/* Any file that the disk has or had: often another one whose header has the same worker and segment. */
+static const struct file *any_file(const struct file *file) {
+    const struct file *other = file;
+    for (uint64_t tries = any_below(64) + 1; tries > 0; tries--)
+        if (other == file || memcmp(other->bytes + 12, file->bytes + 12, 16) != 0)
+            other = &disk->files[any_below(disk->had)];
+    return other;
+}
+
+/* Leaves behind these bytes of a file, and further, what is there, zeros, or bytes of other files, by turns. */
+static void spoil(struct file *file, size_t at) {
+    file->length += any_below(UINT64_C(1) << any_below(10));
+    file->length = file->length < ROOM ? file->length : ROOM;
+    file->had = file->had > file->length ? file->had : file->length;
+    for (size_t size, what; at < file->length; at += size) {
+        const struct file *other = any_file(file);
+        size = 1 + any_below(UINT64_C(1) << any_below(10));
+        size = size < file->length - at ? size : file->length - at;
+        what = any_below(3);
+        if (what == 0)
+            memset(file->bytes + at, 0, size);
+        else if (what == 1 && other != file && other->had >= size)
+            memcpy(file->bytes + at, other->bytes + any_below(other->had - size + 1), size);
+    }
 }
 
 /* Keeps of a file what is synced, all, or more or less. */
 static void crash_file(struct file *file) {
-    uint64_t more = file->length - file->synced, how = any_below(3);
-    file->synced += how == 0 ? 0 : how == 1 ? more : any_below(more + 1);
-    file->length = file->synced;
+    size_t synced = file->synced, more = file->length - synced;
+    uint64_t how = any_below(3);
+    file->length = synced + (how == 0 ? 0 : how == 1 ? more : any_below(more + 1));
+    if (more > 0 && file->bytes[3] == '4' && any_below(2) == 0)
+        spoil(file, synced);
+    file->synced = file->length;
     file->is_lost = false;
 }
 

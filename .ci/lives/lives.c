@@ -1,6 +1,6 @@
 /* Lives of a server over a host: `lives FIRST COUNT` plays those of COUNT seeds from FIRST on, up to one that goes wrong. In the
  * machine of disk.c and threads.c clients put, remove, read and wait, until it crashes, or calls fail. Then the server starts
- * again over what is left, and in the end once more without either.
+ * again over what is left, and in the end once more without either. In some lives there is a log of format 3 at first.
  *
  * What a start recovers must be what the updates up to the stamp that it tells have made, and no later stamp was acknowledged.
  * Stamps rise. While no call fails, each call of the host succeeds, and it closes each file. */
@@ -217,8 +217,11 @@ static int run(void) {
 
 /* Plays the life of this seed. Returns whether all is well. */
 static bool play(uint64_t seed) {
+    static const uint8_t old[] = "MTL3\0\0\0\0\0\0\0\0\0\0\0\0\0\0\0\0" "\0\0\0\x09\x03\0\0\0\0\0\0\0\x01\0\0\0\x09";
     bool was_cut = false;
     begin_machine(seed);
+    if (any_below(4) == 0)
+        lay("0-0.mtl", old, sizeof old - 1);
     memset(life, 0, offsetof(struct life, starts));
     uint64_t starts = 3 + any_below(6);
     for (unsigned number = 0; number < starts; number++) {

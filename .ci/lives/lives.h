@@ -37,6 +37,8 @@ enum { ENDED = 0, WRONG = 1, CRASHED = 2 };
 void create_machine(void);
 /* Gives it an empty disk, and the random numbers of this seed. */
 void begin_machine(uint64_t seed);
+/* Puts a file there. */
+void lay(const char *name, const void *bytes, size_t length);
 /* Keeps what the last process left: all, or what a crash of the machine leaves. */
 void restart_machine(bool is_crash);
 uint64_t any_below(uint64_t most);
