@@ -145,6 +145,14 @@ def opened(content):
     return Opened(text, ends, WHOLE)
 
 
+def text_of(content):
+    """Returns the text of a file of any format. Of one of format 4 without a header it is nothing."""
+    if not content.startswith((LOG, PART)):
+        return content
+    file = opened(content)
+    return file.text if file else b""
+
+
 # ---- Reading logs ----
 
 # By docs/FORMATS.md: the greatest kind, L of a record, key, column number and count, of each format.

@@ -3,8 +3,8 @@ import struct
 from typing import NamedTuple
 
 PUT, REMOVE, MARK, ERASE = 1, 2, 3, 4
-# The formats of logs and parts in random folders, and of logs that servers write and `resume` replaces.
-FORMS, PART_FORMS, WRITTEN = (1, 2, 3, 4), (1, 2), (1, 2, 3)
+# The formats of logs and parts.
+FORMS, PART_FORMS = (1, 2, 3, 4), (1, 2, 4)
 GREATEST = 2**64 - 1
 
 

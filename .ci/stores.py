@@ -9,7 +9,7 @@ from functools import lru_cache
 from pathlib import Path
 from typing import NamedTuple
 
-from blocks import LOG, opened
+from blocks import LOG, PART, opened, text_of
 from counting import TOP
 from formats import ERASE, GREATEST, MARK, PUT, REMOVE, Update
 
@@ -23,6 +23,7 @@ KEYS = [b"", b"a", b"b", b"aaaaaaaa", b"aaaaaaaab", b"aaaaaaaaaaaaaaaac"]
 
 def end_of(part):
     """Returns the end of the checkpoint of this part, if it is complete."""
+    part = text_of(part)
     return struct.unpack_from(">Q", part, len(part) - 12)[0] if len(part) >= 32 else GREATEST
 
 
@@ -55,8 +56,7 @@ class Log(NamedTuple):
 
 @lru_cache(4096)
 def read_log(name, content):
-    form = content[3] - ord("0")
-    content = opened(content).text if form == 4 else content
+    form, content = content[3] - ord("0"), text_of(content)
     (start,) = struct.unpack_from(">Q", content, 4)
     writer, segment, at = (*struct.unpack_from(">II", content, 12), 20) if form > 2 else (name, 0, 12)
     log = Log(form, start, writer, segment, [], [], [])
@@ -166,27 +166,29 @@ class File:
     def __init__(self, content=b""):
         self.content, self.synced = content, len(content)
 
-    def left(self, name, rng):
-        """Returns what a crash leaves: of a log a beginning, of another file any zeros among what is not synced. A log of format 4
-        has both, and anything behind a write that was under way."""
+    def left(self, name, rng, others):
+        """Returns what a crash leaves: of a log a beginning, of another file any zeros among what is not synced. A file of format 4
+        has both, and behind a write that was under way anything, as bytes of other files."""
         whole = len(self.content)
         left = self.content[: rng.choice([self.synced, rng.randint(self.synced, whole), whole])]
-        is_sealed = self.content.startswith(LOG)
+        is_sealed = self.content.startswith((LOG, PART))
         if name.endswith(".mtl") and not is_sealed:
             return left
         begin = rng.randint(self.synced, len(left))
         end = min(begin + rng.choice([1, 1, 4096]), len(left))
         left = left[:begin] + bytes(end - begin) + left[end:]
         if is_sealed and self.synced < whole:
-            left += rng.choice([b"", bytes(rng.randint(1, 60)), rng.randbytes(rng.randint(1, 60))])
+            other = rng.choice([content for content in others if content != self.content] or [b""])
+            left += rng.choice([b"", bytes(rng.randint(1, 60)), rng.randbytes(rng.randint(1, 60)), other[rng.randint(0, len(other)) :]])
         return left
 
 
 class Disk:
-    """A folder: its files, those that a crash is sure to leave, and the changes of names since the folder was last synced."""
+    """A folder: its files, those that a crash is sure to leave, and the changes of names since the folder was last synced. What
+    files had that are gone is still on the disk."""
 
-    def __init__(self, files):
-        self.files = {name: File(content) for name, content in files.items()}
+    def __init__(self, files, gone=()):
+        self.files, self.gone = {name: File(content) for name, content in files.items()}, list(gone)
         self.kept, self.changes = dict(self.files), []
         self.calls_left = GREATEST
 
@@ -232,11 +234,11 @@ class Disk:
 
     def crash(self, rng):
         """Returns what a crash leaves: some of the changes of names, and of each file at least what is synced."""
-        chance = rng.choice([0, 0.5, 1])
+        chance, had = rng.choice([0, 0.5, 1]), [file.content for file in [*self.kept.values(), *self.files.values()]]
         for names in self.changes:
             if rng.random() < chance:
                 rename_all(self.kept, names)
-        return Disk({name: file.left(name, rng) for name, file in self.kept.items()})
+        return Disk({name: file.left(name, rng, had + self.gone) for name, file in self.kept.items()}, had)
 
 
 def after_calls(disk, calls):
