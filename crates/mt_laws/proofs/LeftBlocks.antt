@@ -1,5 +1,5 @@
 -- What a crash leaves of a file of blocks.
-use Rattle.std.proofs.Common.{◌≡◌, ◌⊎◌, inl, inr, ℕ, ◌<◌, false, List, [], ◌∷◌, ◌++◌, length, Contains, refl, sym, ap, ◌∙◌, subst, append_assoc}
+use Rattle.std.proofs.Common.{◌≡◌, ◌⊎◌, inl, inr, ℕ, ◌<◌, false, List, [], ◌++◌, length, Contains, refl, sym, ap, ◌∙◌, subst, append_assoc}
 use Rattle.std.proofs.lemmas.List.{append-nil}
 use Rattle.std.specs.List.{flat_map}
 use Rattle.mt_words.specs.Changes.{Logged}
@@ -11,7 +11,7 @@ use Rattle.mt_record.specs.Spelling.{spelling}
 use Rattle.mt_record.specs.Logs.{log_bytes}
 use Rattle.mt_writer.specs.Framing.{IsFileOfBlocks}
 use Rattle.mt_writer.specs.Files.{OpenFile, IsCutOf}
-use Rattle.mt_writer.specs.Journals.{Journal, Writer, Keeps, file_of, handed_out, records_of}
+use Rattle.mt_writer.specs.Journals.{Journal, Writer, Keeps, file_of, handed_out}
 use Rattle.mt_writer.proofs.JournalLemmas.{cut_of}
 use Rattle.mt_laws.specs.Lives.{IsBehind, IsLeftOf}
 use Rattle.mt_laws.specs.Writing.{IsNewest, HasBlocks}

@@ -8,7 +8,7 @@ use Rattle.mt_words.specs.Limits.{limits_of}
 use Rattle.mt_words.specs.Changes.{Logged}
 use Rattle.mt_words.specs.Walks.{Pair}
 use Rattle.mt_words.proofs.Elements.{head_or_tail, no_element}
-use Rattle.mt_record.specs.Logs.{AreRecords, log_bytes, LogReading, IsReading, times_of}
+use Rattle.mt_record.specs.Logs.{AreRecords, LogReading, IsReading, times_of}
 use Rattle.mt_record.proofs.OneReading.{one_reading_of}
 use Rattle.mt_scan.specs.Cutoff.{IsCutoff}
 use Rattle.mt_scan.specs.PartScans.{KnownPart}

@@ -1,7 +1,6 @@
 -- There are calls of a server by which an update is acknowledged, a segment follows, a checkpoint is written, and the old segment is deleted.
-use Rattle.std.proofs.Common.{◌≡◌, ◌⊎◌, inl, inr, ℕ, ◌+◌, ◌-◌, ◌^◌, ◌<◌, ◌≤◌, false, Some, None, List, [], ◌∷◌, ◌++◌, length, Contains, refl, sym, ap, ◌∙◌, subst, arith}
+use Rattle.std.proofs.Common.{◌≡◌, ◌⊎◌, inl, inr, ℕ, ◌+◌, ◌^◌, ◌<◌, ◌≤◌, false, Some, None, List, [], ◌∷◌, ◌++◌, length, Contains, refl, sym, ap, ◌∙◌, subst, arith}
 use Rattle.std.proofs.lemmas.Bool.{true≢false}
-use Rattle.std.proofs.lemmas.List.{length-append}
 use Rattle.mt_words.specs.declared.update.Update.{Update}
 use Rattle.mt_words.specs.declared.record.Change.{Change}
 use Rattle.mt_words.specs.Built.{mark_of, put_of}
@@ -14,10 +13,9 @@ use Rattle.mt_block.specs.declared.header.Header.{Header}
 use Rattle.mt_block.specs.Blocks.{header_bytes, mark_of as mark_in, block}
 use Rattle.mt_record.specs.Encoding.{segment_head}
 use Rattle.mt_record.specs.Opening.{text_head}
-use Rattle.mt_record.specs.Logs.{log_bytes}
 use Rattle.mt_record.specs.Spelling.{spelling}
 use Rattle.mt_replay.specs.Survivors.{log_updates}
-use Rattle.mt_writer.specs.Files.{OpenFile, file_bytes, IsCutOf}
+use Rattle.mt_writer.specs.Files.{OpenFile, file_bytes}
 use Rattle.mt_writer.specs.Journals.{Journal, Writer, Keeps, file_of, records_of, begun, holding, taking, syncing, NewFile, Begins, IsReached, IsSealed}
 use Rattle.mt_writer.proofs.JournalLemmas.{reached, held_more, taken_all, synced_all, begun_keeps, times_below, opens}
 use Rattle.mt_laws.specs.Lives.{IsBehind, LogOf, there, deleted, AreOld, Checkpoints, only}

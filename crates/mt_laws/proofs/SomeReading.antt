@@ -2,7 +2,7 @@
 use Rattle.std.proofs.Common.{◌≡◌, ◌⊎◌, inl, inr, ℕ, zero, suc, eqb, ◌+◌, ◌^◌, ◌<◌, ◌≤◌, List, [], ◌∷◌, ◌++◌, length, take, drop, Option, Some, None, Bool, true, false, refl, sym, ap, subst, ◌∙◌, arith}
 use Rattle.std.proofs.lemmas.Bool.{cases_lt, cases_eq}
 use Rattle.std.proofs.lemmas.List.{length-drop, length-take-le, take-append-drop, nil_from_length}
-use Rattle.std.specs.Prelude.{◌==◌, ◌||◌, ◌↔◌, not, IfSome, IsTrue, slice_index}
+use Rattle.std.specs.Prelude.{◌==◌, ◌||◌, not, IfSome, slice_index}
 use Rattle.std.proofs.lemmas.List.Elements.{All-from_recursion, recursion_from_All}
 use Rattle.std.specs.List.{All, flat_map}
 use Rattle.byteorder.specs.Endian.{big_bytes, big_from}

@@ -1,5 +1,5 @@
 //! Laws of errors in files of format 4.
-ghost use Rattle.std.specs.Prelude.{◌≡◌, ◌⊎◌, List, ℕ, length};
+ghost use Rattle.std.specs.Prelude.{◌⊎◌, List, ℕ, length};
 ghost use Rattle.mt_crc.specs.Crc.{IsBurst};
 ghost use Rattle.mt_words.specs.declared.fault.Fault.{Fault};
 ghost use Rattle.mt_record.specs.declared.read.FeedFault.{FeedFault};
