@@ -32,7 +32,7 @@ use Rattle.mt_record.proofs.Decodes.{entry_says}
 use Rattle.mt_record.proofs.Entries.{entry_length, short_entry}
 use Rattle.mt_record.proofs.EntryTexts.{whole_code}
 use Rattle.mt_record.proofs.OnePart.{footer_no_entry, same_beginning, part_begins}
-use Rattle.mt_record.proofs.PartFiles.{part_head_not_sealed, part_header_sealed, part_begins_sealed, in_whole, file_reading}
+use Rattle.mt_record.proofs.PartFiles.{part_head_not_sealed, part_header_sealed, NoBlockAt, stops_there}
 use Rattle.mt_record.proofs.Unique.{framed_apart}
 use Rattle.mt_scan.specs.PartScans.{KnownPart, whole, broken, nameless, IsKnown}
 use Rattle.mt_laws.proofs.Decided.{Decided, below, same_bytes, both, alike, three, some_or_none}
@@ -192,35 +192,8 @@ ended text part is =
     }
 
 -- no block stands at this place
-abbrev NoBlockThere : ℕ → List ℕ → Type 0
-NoBlockThere mark rest = (body after : List ℕ) → IsNext mark rest body after → ⊥
-
-none_behind : (mark : ℕ) (rest end : List ℕ) (more : List (List ℕ)) → NoBlockThere mark rest → All IsBody more → rest ≡ blocks mark more ++ end → more ≡ []
-none_behind mark rest end [] none are e = refl
-none_behind mark rest end (b ∷ bs) none are e = absurd (none b (blocks mark bs ++ end) (record { spelled = e ∙ flat mark b bs end; is_body = All-head IsBody b bs are }))
-
--- no block stands behind the blocks, and no further entry in their text, and the bytes are no part
-stops_there : (bytes : List ℕ) (header : PartHeader) (bodies : List (List ℕ)) (rest : List ℕ) (number count : ℕ) → BeginsPartFile bytes header bodies rest → NoBlockThere (part_mark header) rest
-    → HasEntries (part_text_of header bodies) number count → ((part : PartReading) → IsPartTextReading (part_text_of header bodies) part → rest ≡ [] → ⊥) → IsBrokenFile bytes number count
-stops_there bytes header bodies rest number count begins none has no_part = record {
-  header = header;
-  bodies = bodies;
-  rest = rest;
-  begins = begins;
-  front = has.front;
-  no_entry = λ more behind are e.
-      let z : more ≡ [] = none_behind (part_mark header) rest behind more none are e in
-      subst (HasNoEntry (limits_of has.front.head.format)) (sym (ap (λ (l : List (List ℕ)). has.front.rest ++ joined_bodies l) z ∙ append-nil has.front.rest)) has.no_entry;
-  no_part = λ part is.
-      let goes = in_whole bytes is.text header bodies rest begins (file_reading bytes part (part_begins_sealed bytes header bodies rest begins) is) in
-      let z : goes.more ≡ [] = none_behind (part_mark header) rest [] goes.more none goes.are goes.there in
-      let same : is.text ≡ part_text_of header bodies = goes.is_text ∙ ap (λ (l : List (List ℕ)). part_text_of header bodies ++ joined_bodies l) z ∙ append-nil (part_text_of header bodies) in
-      let gone : rest ≡ [] = goes.there ∙ ap (λ (l : List (List ℕ)). blocks (part_mark header) l ++ []) z in
-      no_part part (subst (λ (text : List ℕ). IsPartTextReading text part) same is.is_part) gone;
-}
-
 -- a file of blocks is a part if its text is one and nothing follows
-blocks_file : (bytes : List ℕ) (header : PartHeader) (bodies : List (List ℕ)) (rest : List ℕ) → BeginsPartFile bytes header bodies rest → NoBlockThere (part_mark header) rest → PartOrBroken (part_text_of header bodies)
+blocks_file : (bytes : List ℕ) (header : PartHeader) (bodies : List (List ℕ)) (rest : List ℕ) → BeginsPartFile bytes header bodies rest → NoBlockAt (part_mark header) rest → PartOrBroken (part_text_of header bodies)
     → PartOrFault bytes
 blocks_file bytes header bodies rest begins none (inr (number, count, fails)) =
     inr (faults.Broken number count, inr (stops_there bytes header bodies rest number count begins none (record { front = fails.front; no_entry = fails.no_entry }) (λ part is gone. fails.no_part part is)))

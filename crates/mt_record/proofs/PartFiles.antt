@@ -87,20 +87,17 @@ same_begin bytes header other bodies others rest end is too =
     (s.0, s.1 ∙ ap (λ (x : PartHeader). blocks (part_mark x) others ++ end) (sym s.0))
 
 -- no block stands at this place
-pub NoBlockAt : ℕ → List ℕ → Type 0
+abbrev pub NoBlockAt : ℕ → List ℕ → Type 0
 NoBlockAt mark rest = (body after : List ℕ) → IsNext mark rest body after → ⊥
 
 pub none_follow : (mark : ℕ) (rest end : List ℕ) (more : List (List ℕ)) → NoBlockAt mark rest → All IsBody more → rest ≡ blocks mark more ++ end → more ≡ []
-unfolding NoBlockAt
 none_follow mark rest end [] none are e = refl
 none_follow mark rest end (b ∷ bs) none are e = absurd (none b (blocks mark bs ++ end) (record { spelled = e ∙ flat mark b bs end; is_body = All-head IsBody b bs are }))
 
 pub none_at_cut : (mark : ℕ) (rest : List ℕ) → (rest ≡ []) ⊎ IsCut mark rest → NoBlockAt mark rest
-unfolding NoBlockAt
 none_at_cut mark rest cut body after next = next_not_cut mark rest body after next cut
 
 pub none_at_broken : (mark : ℕ) (rest : List ℕ) → IsBrokenPlace mark rest → NoBlockAt mark rest
-unfolding NoBlockAt
 none_at_broken mark rest broken body after next = next_not_broken mark rest body after broken.0 next broken.1
 
 -- what stands behind the blocks at the front of a whole file are further blocks
