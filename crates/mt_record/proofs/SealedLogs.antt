@@ -1,6 +1,6 @@
 -- Logs of format 4 that are resumed.
-use Rattle.std.proofs.Common.{◌≡◌, ◌⊎◌, inl, inr, ℕ, ◌^◌, ◌<◌, min, Bool, List, [], ◌++◌, length, refl, sym, ap, ◌∙◌, subst, append_assoc, append-nil, arith}
-use Rattle.std.specs.Prelude.{◌==◌, not, IsTrue, ◌↔◌, ◌≢◌}
+use Rattle.std.proofs.Common.{◌≡◌, ◌⊎◌, inl, inr, ℕ, ◌^◌, ◌<◌, min, Bool, List, [], ◌++◌, length, refl, sym, ap, ◌∙◌, subst, append_assoc, arith}
+use Rattle.std.specs.Prelude.{◌==◌, not}
 use Rattle.std.specs.List.{flat_map}
 use Rattle.mt_words.specs.declared.fault.What.{What}
 use Rattle.mt_words.specs.declared.fault.What.TheVariants.{Checksum}
@@ -17,25 +17,19 @@ use Rattle.mt_record.specs.declared.open.OpenedFile.{OpenedFile}
 use Rattle.mt_record.specs.declared.read.FeedFault.{FeedFault}
 use Rattle.mt_record.specs.declared.read.FeedFault.TheVariants as faults
 use Rattle.mt_record.specs.Spelling.{spelling}
-use Rattle.mt_record.specs.Heads.{IsHead, head_bytes}
-use Rattle.mt_record.specs.Opening.{IsSealed, IsDamagedAfter, text_head, text_of, joined, is_torn, Opens}
+use Rattle.mt_record.specs.Heads.{head_bytes}
+use Rattle.mt_record.specs.Opening.{IsDamagedAfter, text_head, text_of, joined, is_torn, Opens}
 use Rattle.mt_record.specs.OpenFiles.{IsFileEnd, IsOpened}
 use Rattle.mt_record.specs.Logs.{latest, IsLog, LogReading, IsReading, count_of}
 use Rattle.mt_record.specs.LogFronts.{IsRest, IsFrontOf}
 use Rattle.mt_record.specs.LogFaults.{IsTextFault, HasTextFault, IsDamagedLog, IsLogFault}
 use Rattle.mt_record.specs.Resuming.{resumed_header, IsResumed, IsSealedAgain}
-use Rattle.mt_record.proofs.Opened.{header_sealed, begins_sealed, plain_reading, one_text, head_not_sealed}
+use Rattle.mt_record.proofs.Opened.{plain_reading, one_text}
 use Rattle.mt_record.proofs.OneReading.{damage_not_log}
 use Rattle.mt_record.proofs.Records.{tells_torn}
 use Rattle.mt_record.proofs.FileFeeds.{text_is_head}
 
 -- ---- faults
-
--- the fault of a text that is no file of format 4 is one of the file
-pub plain_fault : (bytes : List ℕ) (fault : FeedFault) → (IsSealed bytes → ⊥) → IsTextFault bytes fault → IsLogFault bytes fault
-plain_fault bytes faults.Header plain h = (h, λ header more is e. plain (header_sealed bytes header more e))
-plain_fault bytes (faults.Record nth what) plain h = inl (record { text = bytes; opens = inl (plain, refl); fault = h })
-plain_fault bytes faults.Memory plain h = h
 
 -- the fault of the text of blocks is one of the file
 pub sealed_fault : (bytes : List ℕ) (header : Header) (bodies : List (List ℕ)) (rest : List ℕ) (fault : FeedFault) → Begins bytes header bodies rest → IsTextFault (text_of header bodies) fault → IsLogFault bytes fault

@@ -1,16 +1,14 @@
-use Rattle.std.proofs.Common.{◌≡◌, ◌≢◌, ◌∙◌, ◌++◌, ◌⊎◌, inl, inr, [], List, ℕ, true, false, refl, sym, ap, subst}
+use Rattle.std.proofs.Common.{◌≡◌, ◌∙◌, ◌++◌, inl, inr, List, ℕ, sym, ap, subst}
 use Rattle.std.proofs.lemmas.Bool.{false≢true}
 use Rattle.std.proofs.lemmas.List.{append-nil}
 use Rattle.std.proofs.lemmas.Result.{IfOk-weaker, err_from_is_err_and}
-use Rattle.mt_record.specs.declared.resume.ResumedLog.{ResumedLog}
 use Rattle.mt_record.specs.declared.open.FileEnd.TheVariants.{Damaged}
 use Rattle.mt_record.specs.Opening.{IsSealed, text_head, joined}
-use Rattle.mt_record.specs.Logs.{LogReading, IsReading, count_of}
-use Rattle.mt_record.specs.Resuming.{updates_past, is_ended, resumed, IsSealedAgain}
+use Rattle.mt_record.specs.Logs.{LogReading, IsReading}
+use Rattle.mt_record.specs.Resuming.{IsSealedAgain}
 use Rattle.mt_record.specs.LogFaults.{IsTextFault}
 use Rattle.mt_record.proofs.FileFeeds.{text_is_head}
-use Rattle.mt_record.proofs.Opened.{begins_sealed}
-use Rattle.mt_record.proofs.SealedLogs.{plain_fault, sealed_fault, opened_text, text_of_file, resumed_fits, sealed_again}
+use Rattle.mt_record.proofs.SealedLogs.{sealed_fault, opened_text, text_of_file, resumed_fits, sealed_again}
 use Rattle.mt_record.proofs.resume.resume_log.Goals as goal
 
 pub returns-in_default-clause-changed : goal.returns-in_default-clause-changed
