@@ -1,7 +1,8 @@
 -- A pair is appended to the places of a layer.
-use Rattle.std.proofs.Common.{◌≡◌, ℕ, suc, ◌+◌, ◌-◌, ◌*◌, ◌^◌, ◌<◌, ◌≤◌, List, [], ◌∷◌, ◌++◌, length, drop, get_or, sym, ap, ◌∙◌, subst, arith, append_assoc, length-append, length-drop, Vec, Global}
+use Rattle.std.proofs.Common.{◌≡◌, ℕ, suc, ◌+◌, ◌-◌, ◌*◌, ◌^◌, ◌<◌, ◌≤◌, List, [], ◌∷◌, ◌++◌, length, drop, get_or, set, refl, sym, ap, ◌∙◌, subst, arith, append_assoc, length-append, length-drop, Vec, Global}
 use Rattle.std.specs.List.{AllByRecursion}
-use Rattle.std.proofs.lemmas.List.{append-nil, map-append}
+use Rattle.std.proofs.Math.Seq.{set-append_seam}
+use Rattle.std.proofs.lemmas.List.{append-nil, map-append, same_from_push}
 use Rattle.mt_words.specs.Slices.{AreBytes, slice_in, slice_bytes}
 use Rattle.mt_words.specs.Walks.{Pair, joined}
 use Rattle.mt_words.proofs.SliceBytes.{slice_bytes-length, slice_bytes-long, bytes_take}
@@ -12,16 +13,18 @@ use Rattle.mt_tree.specs.Steps.Seams.{Meet, first_slice_of}
 use Rattle.mt_tree.specs.Steps.Falls.{weight-append, walk-append, layer_back, joined-append}
 use Rattle.mt_tree.specs.Nodes.{IsBorder}
 use Rattle.mt_tree.specs.Borders.{DraftView, borders_walk, layer_walk}
-use Rattle.mt_tree.specs.Steps.DraftViews.{border_views, draft_of, IsStored, PutBehind}
+use Rattle.mt_tree.specs.Steps.DraftViews.{border_views, draft_of, IsStored, IsOpen, IsOpened, PutBehind}
 use Rattle.mt_tree.specs.declared.layer.Border.{Border}
 use Rattle.mt_tree.specs.declared.layer.Border.TheVariants.{Open}
 use Rattle.mt_tree.proofs.Joins.{Seam, apart_layer, layer_seam, last_place, put_before-append, below_unprefixed, below_lighter, slice_at-draft, slice_at-lt, all_append, all_back}
 use Rattle.mt_tree.proofs.Finds.{pairs_rank}
-use Rattle.mt_tree.proofs.Puts.{borders-append}
+use Rattle.mt_tree.proofs.Puts.{borders-append, popped_open}
 use Rattle.mt_tree.proofs.Seams.{behind_are}
 use Rattle.mt_tree.proofs.Meets.{first_merged}
 use Rattle.mt_tree.specs.Steps.Places.{views, view_of}
 use Rattle.mt_tree.specs.declared.place.Place.{Place}
+use Rattle.mt_tree.specs.declared.place.Content.{Content}
+use Rattle.mt_tree.specs.declared.place.Content.TheVariants.{Link}
 
 -- ---- the last place
 get_last : (xs : List (Place DraftView)) (p d : Place DraftView) → get_or (xs ++ p ∷ []) (length (xs ++ p ∷ []) - 1) d ≡ p
@@ -33,15 +36,27 @@ get_last (x ∷ xs) p d =
 same_last : (places xs : List (Place DraftView)) (x p : Place DraftView) → places ≡ xs ++ p ∷ [] → x ≡ get_or places (length places - 1) x → x ≡ p
 same_last places xs x p e f = f ∙ ap (λ (z : List (Place DraftView)). get_or z (length z - 1) x) e ∙ get_last xs p x
 
-pub last_of_places : (xs : List (Place DraftView)) (x : Place DraftView) → 1 ≤ length xs → x ≡ get_or xs (length xs - 1) x → (front : List (Place DraftView)) × (xs ≡ front ++ x ∷ [])
-last_of_places [] x h e = absurd (omega arith)
-last_of_places (y ∷ []) x h e =
+-- x is the last item of xs, which has n; and the list with another last item
+pub record LastAt {X : Type 0} (xs : List X) (n : ℕ) (x : X) : Type 0 where
+  pub front : List X
+  pub is : xs ≡ front ++ x ∷ []
+  pub changed : (y : X) → set xs (n - 1) y ≡ front ++ y ∷ []
+
+last_of : {X : Type 0} (xs : List X) (x : X) → 1 ≤ length xs → x ≡ get_or xs (length xs - 1) x → (front : List X) × (xs ≡ front ++ x ∷ [])
+last_of [] x h e = absurd (omega arith)
+last_of {X} (y ∷ []) x h e =
     let at : length (y ∷ []) - 1 ≡ 0 = omega arith in
-    ([], ap (λ (z : Place DraftView). z ∷ []) (sym (e ∙ ap (λ (k : ℕ). get_or (y ∷ []) k x) at)))
-last_of_places (y ∷ z ∷ zs) x h e =
+    ([], ap (λ (z : X). z ∷ []) (sym (e ∙ ap (λ (k : ℕ). get_or (y ∷ []) k x) at)))
+last_of {X} (y ∷ z ∷ zs) x h e =
     let at : length (y ∷ z ∷ zs) - 1 ≡ suc (length (z ∷ zs) - 1) = omega arith in
-    let rest = last_of_places (z ∷ zs) x (omega arith) (e ∙ ap (λ (k : ℕ). get_or (y ∷ z ∷ zs) k x) at) in
-    (y ∷ rest.0, ap (λ (k : List (Place DraftView)). y ∷ k) rest.1)
+    let rest = last_of (z ∷ zs) x (omega arith) (e ∙ ap (λ (k : ℕ). get_or (y ∷ z ∷ zs) k x) at) in
+    (y ∷ rest.0, ap (λ (k : List X). y ∷ k) rest.1)
+
+pub last_at : {X : Type 0} (xs : List X) (n : ℕ) (x : X) → 1 ≤ length xs → n ≡ length xs → x ≡ get_or xs (n - 1) x → LastAt xs n x
+last_at {X} xs n x some whole e =
+    let l = last_of xs x some (e ∙ ap (λ (k : ℕ). get_or xs (k - 1) x) whole) in
+    let at : n - 1 ≡ length l.0 = omega (arith, whole, ap (λ (z : List X). length z) l.1, length-append l.0 (x ∷ [])) in
+    record { front = l.0; is = l.1; changed = λ y. (λ i. set (l.1 i) (at i) y) ∙ set-append_seam l.0 x [] y }
 
 front_layer : (places xs : List (Place DraftView)) (p : Place DraftView) → IsRanked (views layer_walk places) → places ≡ xs ++ p ∷ [] → IsRanked (views layer_walk xs ++ view_of layer_walk p ∷ [])
 front_layer places xs p h e = subst IsRanked (ap (views layer_walk) e ∙ map-append (view_of layer_walk) xs (p ∷ [])) h
@@ -50,7 +65,7 @@ pub popped_lawful : (places xs : List (Place DraftView)) (p : Place DraftView) �
 popped_lawful places xs p h e = last_place 0 (views layer_walk xs) (view_of layer_walk p) (front_layer places xs p h e)
 
 pub last_lawful : (places : List (Place DraftView)) (x : Place DraftView) → IsRanked (views layer_walk places) → 1 ≤ length places → x ≡ get_or places (length places - 1) x → IsPlace (view_of layer_walk x)
-last_lawful places x h some e = let l = last_of_places places x some e in popped_lawful places l.0 x h l.1
+last_lawful places x h some e = let l = last_of places x some e in popped_lawful places l.0 x h l.1
 
 walk_last : (places xs : List (Place DraftView)) (p : Place DraftView) → places ≡ xs ++ p ∷ [] → walk (views layer_walk places) ≡ walk (views layer_walk xs) ++ pairs_at (view_of layer_walk p)
 walk_last places xs p e =
@@ -65,7 +80,7 @@ pub own_layer : (places after : List (Place DraftView)) (x q : Place DraftView) 
     → AllKeysBelow (walk (views layer_walk places)) ((key, c) ∷ []) → slice ≡ slice_in key → ((x.slice ≡ slice) × (length_at (view_of layer_walk x) ≡ 9) × (8 < length key) → ⊥)
     → IsPlace (view_of layer_walk q) → pairs_at (view_of layer_walk q) ≡ (key, c) ∷ [] → after ≡ places ++ q ∷ [] → IsRanked (views layer_walk after)
 own_layer places after x q key c slice h some last below is other lawful pairs e =
-    let l = last_of_places places x some last in
+    let l = last_of places x some last in
     let rank : key_rank key ≡ rank_at (view_of layer_walk q) = key_at key c q lawful pairs in
     let few = length_at-le (view_of layer_walk q) lawful in
     let alone : walk (views layer_walk (q ∷ [])) ≡ (key, c) ∷ [] = append-nil (pairs_at (view_of layer_walk q)) ∙ pairs in
@@ -109,6 +124,26 @@ deeper places xs x p slice n key c upper h e last whole there is_slice bytes upp
       some = some;
       keys = keys;
     }
+
+-- the place of this slice that links to this layer
+abbrev pub linking : ℕ → DraftView → Place DraftView
+linking slice lower = record { slice = slice; content = Link lower }
+
+-- the last of these places, n in number, has this slice and links to this layer, and the key goes below it
+pub record Linked (places : List (Place DraftView)) (n at slice : ℕ) (lower : DraftView) (key : List ℕ) (c : List (ℕ × List ℕ)) : Type 0 where
+  pub last : LastAt places n (linking at lower)
+  pub below : Deeper (linking at lower) slice key c (layer_walk lower)
+
+pub linked_last : (places : List (Place DraftView)) (n slice : ℕ) (x y : Place DraftView) (lower : DraftView) (key : List ℕ) (c : List (ℕ × List ℕ)) → IsRanked (views layer_walk places) → 1 ≤ length places → n ≡ length places
+    → y ≡ get_or places (n - 1) y → x ≡ get_or places (n - 1) x → x.content ≡ Link lower → (y.slice ≡ slice) × (length_at (view_of layer_walk y) ≡ 9) × (8 < length key) → slice ≡ slice_in key → AreBytes key
+    → Linked places n x.slice slice lower key c
+linked_last places n slice x y lower key c h some whole e f content met is_slice bytes =
+    let p = linking x.slice lower in
+    let same : x ≡ p = ap (λ (z : Content DraftView). record { slice = x.slice; content = z }) content in
+    let last : LastAt places n p = subst (LastAt places n) same (last_at places n x some whole f) in
+    let lawful : IsPlace (view_of layer_walk p) = popped_lawful places last.front p h last.is in
+    let two : 2 ≤ length (layer_walk lower) = lawful.1 in
+    record { last = last; below = deeper places last.front y p slice n key c (layer_walk lower) h last.is e whole met is_slice bytes refl (omega (arith, two)) lawful.2 }
 
 module _ (p : Place DraftView) (slice : ℕ) (key : List ℕ) (c : List (ℕ × List ℕ)) (upper : List Pair) (d : Deeper p slice key c upper) where
   whole_key : slice_bytes slice ++ drop 8 key ≡ key
@@ -170,6 +205,26 @@ pub record Opened (fs : List (List PlaceView)) (l : List PlaceView) (v : List (L
 
 pub open_end : (lb fs : List Border) (b : Border) (l : Vec (Place DraftView) Global) → lb ≡ fs ++ b ∷ [] → b ≡ Open l → lb ≡ fs ++ Open l ∷ []
 open_end lb fs b l e f = e ∙ ap (λ (z : Border). fs ++ z ∷ []) f
+
+pub last_border : (bs : List Border) (n : ℕ) (b : Border) (l : Vec (Place DraftView) Global) → 1 ≤ length bs → n ≡ length bs → b ≡ get_or bs (n - 1) b → b ≡ Open l → LastAt bs n (Open l)
+last_border bs n b l some whole e f = subst (LastAt bs n) f (last_at bs n b some whole e)
+
+pub last_is_open : (bs : List Border) (n : ℕ) (b : Border) → IsStored bs → 1 ≤ length bs → n ≡ length bs → b ≡ get_or bs (n - 1) b → IsOpen b
+last_is_open bs n b stored some whole e = let k = last_at bs n b some whole e in popped_open bs k.front b k.is stored.last
+
+-- a last border that is popped is the one that was there
+module _ (all front popped : List Border) (b : Border) (l : Vec (Place DraftView) Global) (e : all ≡ front ++ Open l ∷ []) (f : all ≡ popped ++ b ∷ []) where
+  same_last_border : (popped ≡ front) × (b ≡ Open l)
+  same_last_border = same_from_push popped front b (Open l) (sym f ∙ e)
+
+  pub popped_is_open : IsOpen b
+  popped_is_open = subst IsOpen (sym same_last_border.1) tt
+
+  pub popped_front : popped ≡ front
+  popped_front = same_last_border.0
+
+  pub popped_places : (r : Vec (Place DraftView) Global) → b ≡ Open r → r.items ≡ l.items
+  popped_places r g = subst (λ (z : Border). IsOpened z r.items) (sym g ∙ same_last_border.1) refl
 
 pub opened : (lb fs : List Border) (l : Vec (Place DraftView) Global) (d : DraftView) → draft_of lb ≡ d → IsStored lb → lb ≡ fs ++ Open l ∷ [] → Opened (border_views fs) (views layer_walk l.items) d.borders
 opened lb fs l d seen stored e =

@@ -3,11 +3,11 @@ use Rattle.std.proofs.Common.{◌≡◌, ℕ, ◌≤◌, List, [], ◌∷◌, �
 use Rattle.std.specs.List.{AllByRecursion, flat_map}
 use Rattle.std.proofs.lemmas.List.{length-map}
 use Rattle.mt_tree.specs.Steps.Ranks.{layered, AreRanked}
-use Rattle.mt_tree.specs.Layer.{PlaceView, linked_walks}
+use Rattle.mt_tree.specs.Layer.{PlaceView, walk, linked_walks}
 use Rattle.mt_tree.specs.Nodes.{LayerView, each_borders, IsLayerTree, AreLinked, linked, unlinked}
 use Rattle.mt_words.specs.Walks.{Pair, joined}
-use Rattle.mt_tree.specs.Borders.{IsBorderList, AreBorders, layer_walk, DraftView}
-use Rattle.mt_tree.specs.Steps.Seams.{SameEnds}
+use Rattle.mt_tree.specs.Borders.{IsBorderList, AreBorders, borders_walk, layer_walk, DraftView}
+use Rattle.mt_tree.specs.Steps.Seams.{SameEnds, first_slice_of}
 use Rattle.mt_tree.specs.Steps.DraftViews.{border_view, border_views, layers_of_border, draft_of, IsLawfulLink, HaveLawfulLinks, HasLawfulLinks, IsFirstOpen, IsLastOpen, IsStored, PutBehind, PutOpen, layers_under}
 use Rattle.mt_tree.specs.declared.layer.Border.{Border}
 use Rattle.mt_tree.specs.declared.layer.Border.TheVariants.{Open, Closed}
@@ -16,6 +16,7 @@ use Rattle.mt_tree.proofs.Joins.{all_append, all_front, all_back}
 use Rattle.mt_tree.proofs.Levels.{linked-append, linked_walks-append}
 use Rattle.mt_tree.proofs.Puts.{first_front, first_then, last_then, last_rest}
 use Rattle.mt_tree.proofs.Meets.{Sides, last_border, seam_put}
+use Rattle.mt_tree.proofs.Behind.{opened, opened_put}
 use Rattle.mt_tree.specs.Steps.Places.{views, view_of, view_of_content, below_link, below_links}
 use Rattle.mt_tree.specs.Steps.NodeViews.{trees_under}
 use Rattle.mt_tree.specs.declared.place.Place.{Place}
@@ -90,6 +91,17 @@ put_stored lb fs new l places own h e k some put = record {
   first = put.put.first (first_front fs (Open l) (subst IsFirstOpen e h.first));
   last = put.last some;
 }
+
+-- if these places have those of the last border and one pair more, the layer is lawful and has one pair more
+pub appended : (lb fs new : List Border) (l : Vec (Place DraftView) Global) (places : List (Place DraftView)) (p : Pair) → IsStored lb → lb ≡ fs ++ Open l ∷ [] → PutOpen places fs new
+    → walk (views layer_walk places) ≡ walk (views layer_walk l.items) ++ p ∷ [] → first_slice_of (views layer_walk places) ≡ first_slice_of (views layer_walk l.items) → HaveLawfulLinks places → 1 ≤ length places
+    → IsStored new × (borders_walk (border_views new) ≡ borders_walk (border_views lb) ++ p ∷ [])
+appended lb fs new l places p stored e put pairs first links some =
+    let r = opened_put fs (views layer_walk l.items) (border_views lb) (opened lb fs l (draft_of lb) refl stored e) places new p put.put pairs first in
+    (put_stored lb fs new l places r.0 stored e links some put, r.1)
+
+pub put_moved : (xs ys : List (Place DraftView)) (a b new : List Border) → xs ≡ ys → a ≡ b → PutOpen xs a new → PutOpen ys b new
+put_moved xs ys a b new e f put = subst (λ (z : List (Place DraftView)). PutOpen z b new) e (subst (λ (z : List Border). PutOpen xs z new) f put)
 
 more_some : (places : List (Place DraftView)) (old new : List Border) → PutBehind places old new → 1 ≤ length places → 1 ≤ length new
 more_some places old new put some = by put.more refl

@@ -7,15 +7,15 @@
 //! Pairs come in key order, so a push changes the last border alone, and a join only the two that meet. A closed border is
 //! finished: its links lead to nodes.
 ghost use Rattle.std.specs.Prelude.{◌≡◌, ◌≤◌, ◌+◌, ◌<◌, ◌++◌, ◌∷◌, ◌↔◌, [], length, take, drop};
-ghost use Rattle.std.specs.Prelude.{MatchBool, IfOk, OnOk, IsTrue};
+ghost use Rattle.std.specs.Prelude.{MatchBool, IfOk, OnOk, OnErr, IsTrue};
 ghost use Rattle.mt_tree.specs.Layer.{walk, pairs_at, put_before, length_at};
 ghost use Rattle.mt_tree.specs.Steps.Ranks.{IsRanked};
 ghost use Rattle.mt_tree.specs.Layer.{IsPlace, HasNoEmptyKey, AllKeysBelow};
 ghost use Rattle.mt_tree.specs.Steps.Seams.{Meet, first_slice_of, SameEnds, last_slice_of};
 ghost use Rattle.mt_tree.specs.Steps.Places.{view_of, views};
-ghost use Rattle.mt_tree.specs.Steps.DraftViews.{IsLawfulLink, HaveLawfulLinks, IsOpen, IsOpened, PutBehind, PutOpen};
+ghost use Rattle.mt_tree.specs.Steps.DraftViews.{border_views, IsStored, IsLawfulLink, HaveLawfulLinks, IsOpen, IsOpened, PutBehind, PutOpen};
 ghost use Rattle.mt_tree.specs.Nodes.{IsBorder, SlicesBelow, SlicesFrom};
-ghost use Rattle.mt_tree.specs.Borders.{AreBorders, empty_draft, layer_walk};
+ghost use Rattle.mt_tree.specs.Borders.{AreBorders, borders_walk, empty_draft, layer_walk};
 ghost use Rattle.mt_tree.specs.declared.layer.Border.TheVariants.{Open};
 ghost use Rattle.mt_tree.specs.declared.node.TheConstants.{MOST_PLACES};
 ghost use Rattle.mt_words.specs.Slices.{slice_bytes};
@@ -120,39 +120,42 @@ fn place_for(alloc: Global, key: &[u8], columns: PackedColumns) -> Result<Place<
 #[cycle(push)]
 fn follow(
     alloc: Global,
-    places: Vec<Place<Layer>>,
+    places: &mut Vec<Place<Layer>>,
     key: &[u8],
     columns: PackedColumns,
-) -> Result<Vec<Place<Layer>>, Memory>
-    requires lawful { IsRanked (views layer_walk places.items) }
-    requires some { 1 ≤ length places.items }
-    requires links { HaveLawfulLinks places.items }
-    requires below { AllKeysBelow (walk (views layer_walk places.items)) ((key.now, columns) ∷ []) }
-    ensures pairs { IfOk result (λ r.
-        walk (views layer_walk r.items) ≡ walk (views layer_walk places.items) ++ (key.now, columns) ∷ []) }
-    ensures lawful { IfOk result (λ r. IsRanked (views layer_walk r.items)) }
-    ensures links { IfOk result (λ r. HaveLawfulLinks r.items) }
-    ensures first { IfOk result (λ r.
-        first_slice_of (views layer_walk r.items) ≡ first_slice_of (views layer_walk places.items)) }
-    ensures some { IfOk result (λ r. 1 ≤ length r.items) }
-    ensures more { IfOk result (λ r. length r.items ≤ length places.items + 1) }
+) -> Result<(), Memory>
+    requires lawful { IsRanked (views layer_walk places.old.items) }
+    requires some { 1 ≤ length places.old.items }
+    requires links { HaveLawfulLinks places.old.items }
+    requires below { AllKeysBelow (walk (views layer_walk places.old.items)) ((key.now, columns) ∷ []) }
+    ensures pairs { OnOk result (
+        walk (views layer_walk places.new.items) ≡ walk (views layer_walk places.old.items) ++ (key.now, columns) ∷ []) }
+    ensures lawful { OnOk result (IsRanked (views layer_walk places.new.items)) }
+    ensures links { OnOk result (HaveLawfulLinks places.new.items) }
+    ensures first { OnOk result (
+        first_slice_of (views layer_walk places.new.items) ≡ first_slice_of (views layer_walk places.old.items)) }
+    ensures some { OnOk result (1 ≤ length places.new.items) }
+    ensures more { OnOk result (length places.new.items ≤ length places.old.items + 1) }
 {
-    let mut places = places;
     let slice = slice_of(key);
-    if !places[places.len() - 1].meets_key(slice, key.len()) {
+    let at = places.len() - 1;
+    if !places[at].meets_key(slice, key.len()) {
         places.push(place_for(alloc, key, columns)?)?;
-        return Ok(places);
+        return Ok(());
+    }
+    if let Content::Link(lower) = &mut places[at].content {
+        return lower.push(alloc, &key[8..], columns);
     }
     let Some(last) = places.pop() else {
         unreachable!()
     };
-    let upper = Layer::below(alloc, last)?;
-    let joined = Layer::push(alloc, upper, &key[8..], columns)?;
+    let mut lower = Layer::below(alloc, last)?;
+    lower.push(alloc, &key[8..], columns)?;
     places.push(Place {
         slice,
-        content: Content::Link(joined),
+        content: Content::Link(lower),
     })?;
-    Ok(places)
+    Ok(())
 }
 
 /// Returns the number of places whose slice is below this one.
@@ -215,27 +218,52 @@ fn push_closed(
     Ok(())
 }
 
-/// Appends places to the borders. If they are one too many for a border, they are cut before the last slice, which has
-/// at most ten of them. No further push changes the places before the cut. Err: out of memory.
+/// Appends places that are one too many for a border. They are cut before the last slice, which has at most ten of
+/// them. No further push changes the places before the cut. Err: out of memory.
 fn push_cut(
     alloc: Global,
     borders: &mut Vec<Border>,
     places: Vec<Place<Layer>>,
 ) -> Result<(), Memory>
     requires lawful { IsRanked (views layer_walk places.items) }
-    requires some { 1 ≤ length places.items }
-    requires most { length places.items ≤ MOST_PLACES + 1 }
+    requires long { length places.items ≡ MOST_PLACES + 1 }
     ensures { OnOk result (PutOpen places.items borders.old.items borders.new.items) }
 {
     let mut places = places;
-    if places.len() > MOST_PLACES {
-        let slice = places[places.len() - 1].slice;
-        let mut last = split_before(&mut places, slice)?;
-        push_closed(alloc, borders, places)?;
-        last.reserve(MOST_PLACES)?;
-        return push_border(borders, last);
+    let slice = places[places.len() - 1].slice;
+    let mut last = split_before(&mut places, slice)?;
+    push_closed(alloc, borders, places)?;
+    last.reserve(MOST_PLACES)?;
+    push_border(borders, last)
+}
+
+/// Appends a pair to the last border, and cuts it if it is then too long. Err: out of memory.
+#[cycle(push)]
+fn push_last(
+    alloc: Global,
+    borders: &mut Vec<Border>,
+    key: &[u8],
+    columns: PackedColumns,
+) -> Result<(), Memory>
+    requires lawful { IsStored borders.old.items }
+    requires some { 1 ≤ length borders.old.items }
+    requires below { AllKeysBelow (borders_walk (border_views borders.old.items)) ((key.now, columns) ∷ []) }
+    ensures lawful { OnOk result (IsStored borders.new.items) }
+    ensures pairs { OnOk result (borders_walk (border_views borders.new.items)
+        ≡ borders_walk (border_views borders.old.items) ++ (key.now, columns) ∷ []) }
+{
+    let at = borders.len() - 1;
+    let Border::Open(places) = &mut borders[at] else {
+        unreachable!()
+    };
+    follow(alloc, places, key, columns)?;
+    if places.len() <= MOST_PLACES {
+        return Ok(());
     }
-    push_border(borders, places)
+    let Some(last) = borders.pop() else {
+        unreachable!()
+    };
+    push_cut(alloc, borders, last.into_places())
 }
 
 /// Merges two neighbouring lists of places at their seam. If the last place of the first list and the first place of
@@ -409,24 +437,28 @@ impl Layer {
         Ok(Layer { borders })
     }
 
-    /// Appends a pair. Its key must be above all keys of the layer. Only the last border changes. Err: out of memory.
+    /// Appends a pair. Its key must be above all keys of the layer. Only the last border changes. Err: out of memory;
+    /// the layer is then empty.
     #[cycle(push)]
     pub(crate) fn push(
+        &mut self,
         alloc: Global,
-        layer: Layer,
         key: &[u8],
         columns: PackedColumns,
-    ) -> Result<Layer, Memory>
-        requires { AllKeysBelow (layer_walk layer) ((key.now, columns) ∷ []) }
-        ensures pairs { IfOk result (λ l. layer_walk l ≡ layer_walk layer ++ (key.now, columns) ∷ []) }
-        ensures lawful { IfOk result AreBorders }
+    ) -> Result<(), Memory>
+        requires { AllKeysBelow (layer_walk self.old) ((key.now, columns) ∷ []) }
+        ensures pairs { OnOk result (layer_walk self.new ≡ layer_walk self.old ++ (key.now, columns) ∷ []) }
+        ensures lawful { OnOk result (AreBorders self.new) }
+        ensures refused { OnErr result (self.new ≡ empty_draft) }
     {
-        let mut borders = layer.borders;
-        let Some(last) = borders.pop() else {
-            return Layer::single(alloc, key, columns);
-        };
-        let places = follow(alloc, last.into_places(), key, columns)?;
-        push_cut(alloc, &mut borders, places)?;
-        Ok(Layer { borders })
+        if self.is_empty() {
+            *self = Layer::single(alloc, key, columns)?;
+            return Ok(());
+        }
+        let pushed = push_last(alloc, &mut self.borders, key, columns);
+        if pushed.is_err() {
+            self.borders = Vec::new(alloc);
+        }
+        pushed
     }
 }

@@ -22,7 +22,6 @@ use arrayvec::ArrayVec;
 use mt_words::{Key, Memory, PackedColumns, PairSink};
 use std::alloc::Global;
 use std::marker::Model;
-use std::mem;
 
 /// A layered tree under construction. Its layers are lists of borders, which join at their seams.
 #[derive(Drop)]
@@ -103,6 +102,7 @@ impl Draft {
     }
 
     /// Appends a pair. Its key must be above all keys of the draft. Err: out of memory; the draft is then empty.
+    #[tactic(auto, using(crate::specs::Nodes::unlinked))]
     pub fn push(&mut self, key: &[u8], columns: PackedColumns) -> Result<(), Memory>
         requires lawful { IsKey widest key.now }
         requires rises { KeysRise (layer_walk self.old ++ (key.now, columns) ∷ []) }
@@ -111,10 +111,11 @@ impl Draft {
         ensures refused { OnErr result (self.new ≡ empty_draft) }
     {
         let alloc = self.layer.allocator();
-        let Draft { layer, count } = mem::replace(self, Draft::new(alloc));
-        let layer = Layer::push(alloc, layer, key, columns)?;
-        let count = count.saturating_add(1);
-        *self = Draft { layer, count };
+        if let Err(fault) = self.layer.push(alloc, key, columns) {
+            self.count = 0;
+            return Err(fault);
+        }
+        self.count = self.count.saturating_add(1);
         Ok(())
     }
 

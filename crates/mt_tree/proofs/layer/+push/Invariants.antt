@@ -1,12 +1,16 @@
 use Rattle.std.proofs.Common.{◌+◌, ◌*◌}
 use Rattle.mt_tree.specs.Layer.{walk}
 use Rattle.mt_tree.specs.Steps.Pairs.{weight}
-use Rattle.mt_tree.specs.Borders.{layer_walk}
+use Rattle.mt_tree.specs.Steps.DraftViews.{border_views}
+use Rattle.mt_tree.specs.Borders.{borders_walk, layer_walk}
 use Rattle.mt_tree.specs.Steps.Places.{views}
 use Rattle.mt_tree.proofs.layer.+push.Given as goal
 
 abbrev pub decreases-Layer::push : goal.decreases-Layer::push
-decreases-Layer::push l = 2 * weight (layer_walk l.layer) + 1
+decreases-Layer::push l = 3 * weight (layer_walk l.self.now) + 2
+
+abbrev pub decreases-push_last : goal.decreases-push_last
+decreases-push_last l = 3 * weight (borders_walk (border_views l.borders.now.items)) + 1
 
 abbrev pub decreases-follow : goal.decreases-follow
-decreases-follow l = 2 * weight (walk (views layer_walk l.places.items))
+decreases-follow l = 3 * weight (walk (views layer_walk l.places.now.items))
