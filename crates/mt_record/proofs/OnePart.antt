@@ -53,7 +53,7 @@ footer_no_entry format rest more end count e = length_no_entry format rest 0 (bi
 -- ---- parts
 
 -- bytes begin with only one list of entries, if no further entry follows
-same_rest : (format : Format) (xs ys : List Change) (a b : List ℕ) → AllByRecursion (IsEntry (limits_of format)) xs → AllByRecursion (IsEntry (limits_of format)) ys
+pub same_rest : (format : Format) (xs ys : List Change) (a b : List ℕ) → AllByRecursion (IsEntry (limits_of format)) xs → AllByRecursion (IsEntry (limits_of format)) ys
     → HasNoEntry (limits_of format) a → HasNoEntry (limits_of format) b → flat_map entry_spelling xs ++ a ≡ flat_map entry_spelling ys ++ b → (xs ≡ ys) × (a ≡ b)
 same_rest format [] [] a b are too none_a none_b e = (refl, e)
 same_rest format [] (y ∷ ys) a b are too none_a none_b e = absurd (none_a y (flat_map entry_spelling ys ++ b) too.0 (e ∙ append_assoc (entry_spelling y) (flat_map entry_spelling ys) b))

@@ -6,4 +6,5 @@ pub mod Blocks
 pub mod Kept
 pub mod Splits
 pub mod Salvages
+pub mod PartSalvages
 pub mod Telling

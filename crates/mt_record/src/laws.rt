@@ -1,5 +1,5 @@
 //! Laws that hold for all bytes.
-ghost use Rattle.std.specs.Prelude.{◌≡◌, ◌++◌, ℕ, List, [], length};
+ghost use Rattle.std.specs.Prelude.{◌≡◌, ◌<◌, ◌^◌, ◌++◌, ℕ, List, [], length};
 ghost use Rattle.std.specs.List.{flat_map};
 ghost use Rattle.mt_words.specs.declared.limits.Format.{Format};
 ghost use Rattle.mt_words.specs.Limits.{limits_of};
@@ -11,11 +11,12 @@ ghost use Rattle.mt_record.specs.declared.feed.head.Head.{Head};
 ghost use Rattle.mt_record.specs.Heads.{IsHead, head_bytes};
 ghost use Rattle.mt_record.specs.declared.salvage.Stretch.{Stretch};
 ghost use Rattle.mt_record.specs.Salvage.{AreStretches, kept_bytes, spans, records_in};
+ghost use Rattle.mt_record.specs.PartSalvage.{AreEntryStretches, AreStretchesIn, salvaged_part};
 ghost use Rattle.mt_record.specs.Logs.{IsLog, LogReading, IsReading};
 ghost use Rattle.mt_record.specs.LogFaults.{IsLogFault};
 ghost use Rattle.mt_record.specs.declared.part_text.PartHead.{PartHead};
 ghost use Rattle.mt_record.specs.declared.part_text.PartFault.{PartFault};
-ghost use Rattle.mt_record.specs.Parts.{IsPart, entry_spelling, PartReading, IsPartReading};
+ghost use Rattle.mt_record.specs.Parts.{IsPart, IsPartHead, entry_spelling, PartReading, IsPartReading};
 ghost use Rattle.mt_record.specs.PartFaults.{IsPartFault};
 
 /// A text is a log in at most one way. A file is a log in at most one way and has at most one fault, never both. No encoding of a record begins the
@@ -64,4 +65,21 @@ pub fn one_salvage()
         AreStretches (limits_of head.format) 0 bytes stretches →
         (records : List Logged) × IsLog (head_bytes head ++ kept_bytes stretches) head records [] ×
         (records_in stretches ≡ length records) }
+{}
+
+/// Bytes have one list of stretches of entries: the bytes that are kept and those that are skipped, in order, each once.
+/// What is kept of the pieces of a part is, between its header and a footer, a part of exactly the entries that were
+/// counted. This is a law: it has nothing to run.
+pub fn one_part_salvage()
+    ensures one_list { (format : Format) (bytes : List ℕ) (stretches others : List Stretch) →
+        AreEntryStretches (limits_of format) bytes stretches → AreEntryStretches (limits_of format) bytes others →
+        spans stretches ≡ spans others }
+    ensures in_order { (format : Format) (bytes : List ℕ) (stretches : List Stretch) →
+        AreEntryStretches (limits_of format) bytes stretches →
+        bytes ≡ flat_map (λ stretch. stretch.kept.now ++ stretch.skipped.now) stretches }
+    ensures part { (head : PartHead) (pieces : List (List ℕ)) (stretches : List Stretch) (end : ℕ) →
+        IsPartHead head → end < 2 ^ 64 → AreStretchesIn (limits_of head.format) pieces stretches →
+        records_in stretches < 2 ^ 32 →
+        (entries : List Change) × IsPart (salvaged_part head stretches end) head entries end ×
+        (records_in stretches ≡ length entries) }
 {}

@@ -12,14 +12,14 @@ use std::alloc::Global;
 /// So many complete records in a row are records of the log, whatever follows them. Fewer must end the log.
 pub const ENOUGH_RECORDS: usize = 8;
 
-/// Complete records of a damaged log, and the bytes after them that are skipped.
+/// Complete records of a damaged log, or entries of a broken part, and the bytes after them that are skipped.
 #[derive(Clone, Copy, Debug)]
 pub struct Stretch<'a> {
-    /// The records, one after the other.
+    /// The records or entries, one after the other.
     pub kept: &'a [u8],
-    /// The number of records.
+    /// Their number.
     pub count: usize,
-    /// The bytes between these records and those of the next stretch, or the end.
+    /// The bytes between them and those of the next stretch, or the end.
     pub skipped: &'a [u8],
 }
 
