@@ -1,6 +1,7 @@
 //! The collections into which the records of a log and the entries of a part are read.
 mod block;
 pub mod byte_strings;
+mod ends;
 pub mod log;
 pub mod part;
 pub mod share;

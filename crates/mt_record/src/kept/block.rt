@@ -3,6 +3,7 @@ ghost use Rattle.std.specs.Prelude.{◌≡◌, ◌<◌, ◌≤◌, ◌++◌, [],
 ghost use Rattle.mt_record.specs.Steps.ByteStrings.{start_at};
 
 use crate::encode::put::put_bytes;
+use crate::kept::ends::Ends;
 use mt_words::Memory;
 use std::alloc::Global;
 use std::marker::Model;
@@ -11,7 +12,7 @@ use std::marker::Model;
 #[derive(Debug, Drop)]
 pub(crate) struct Block {
     bytes: Vec<u8>,
-    ends: Vec<usize>,
+    ends: Ends,
 }
 
 impl Model for Block {
@@ -20,9 +21,9 @@ impl Model for Block {
 
     ghost Value = { List (List ℕ) };
 
-    ghost view = { λ t. texts_from 0 t.bytes.items t.ends.items };
+    ghost view = { λ t. texts_from 0 t.bytes.items t.ends };
 
-    ghost invariant = { λ t. AreEnds 0 (length t.bytes.items) t.ends.items };
+    ghost invariant = { λ t. AreEnds 0 (length t.bytes.items) t.ends };
 }
 
 impl Block {
@@ -32,7 +33,7 @@ impl Block {
     {
         Block {
             bytes: Vec::new(alloc),
-            ends: Vec::new(alloc),
+            ends: Ends::new(alloc),
         }
     }
 
@@ -42,7 +43,7 @@ impl Block {
     {
         Ok(Block {
             bytes: Vec::with_capacity(alloc, bytes)?,
-            ends: Vec::with_capacity(alloc, texts)?,
+            ends: Ends::with_capacity(alloc, texts)?,
         })
     }
 
@@ -68,9 +69,7 @@ impl Block {
         requires { 0 < length self.old }
         ensures { (last : List ℕ) × (self.old ≡ self.new ++ last ∷ []) }
     {
-        let Some(_end) = self.ends.pop() else {
-            unreachable!();
-        };
+        self.ends.drop_last();
         let size = start_of(&self.ends, self.ends.len());
         self.bytes.truncate(size);
     }
@@ -88,7 +87,7 @@ impl Block {
         ensures { (d : List ℕ) → result.now ≡ slice_index_or self.now at d }
     {
         let start = start_of(&self.ends, at);
-        let end = self.ends[at];
+        let end = self.ends.get(at);
         &self.bytes[start..end]
     }
 
@@ -100,12 +99,10 @@ impl Block {
         ensures ok { OnOk result (self.new ≡ self.old ++ text.now ∷ []) }
         ensures err { OnErr result (self.new ≡ self.old) }
     {
-        // A text is appended completely or not at all, so all room is reserved first.
-        self.ends.reserve(1)?;
+        // A text is appended completely or not at all, so its room is reserved first.
         self.bytes.reserve(text.len())?;
+        self.ends.push(self.bytes.len() + text.len())?;
         put_bytes(text, &mut self.bytes);
-        let end = self.bytes.len();
-        self.ends.push_reserved(end);
         Ok(())
     }
 
@@ -114,23 +111,22 @@ impl Block {
         ensures ok { OnOk result (self.new ≡ self.old ++ (front.now ++ rest.now) ∷ []) }
         ensures err { OnErr result (self.new ≡ self.old) }
     {
-        self.ends.reserve(1)?;
-        self.bytes.reserve(front.len() + rest.len())?;
+        let size = front.len() + rest.len();
+        self.bytes.reserve(size)?;
+        self.ends.push(self.bytes.len() + size)?;
         put_bytes(front, &mut self.bytes);
         put_bytes(rest, &mut self.bytes);
-        let end = self.bytes.len();
-        self.ends.push_reserved(end);
         Ok(())
     }
 }
 
 /// Returns where the text at this place starts.
-fn start_of(ends: &[usize], at: usize) -> usize
+fn start_of(ends: &Ends, at: usize) -> usize
     requires { at ≤ length ends.now }
     ensures { result ≡ start_at 0 ends.now at }
 {
     if at == 0 {
         return 0;
     }
-    ends[at - 1]
+    ends.get(at - 1)
 }

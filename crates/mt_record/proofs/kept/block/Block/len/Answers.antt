@@ -4,5 +4,5 @@ use Rattle.mt_record.proofs.kept.block.Block.len.Goals as goal
 
 pub returns : goal.returns
 returns c =
-    let count = texts_count 0 c.self.inside.bytes.items c.self.inside.ends.items in
-    rw (← c.self.view_is) (omega (arith, c.len.ensures, count, c.self.inside.ends.ok.0))
+    let count = texts_count 0 c.self.inside.bytes.items c.self.inside.ends in
+    rw (← c.self.view_is) (omega (arith, c.len.ensures, count))
