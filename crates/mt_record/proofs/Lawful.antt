@@ -67,7 +67,7 @@ pub lawful_fits : (format : Format) (r : Logged) → IsLawful (limits_of format)
 lawful_fits format r lawful = (lawful.0, change_fits format r.change lawful.1)
 
 -- a count and lawful columns take at most 1 byte, and 65538 for each column number
-carried_length : (limits : Limits) (cs : List (ℕ × List ℕ)) → AreColumns limits cs → suc (length (flat_map column_bytes cs)) ≤ 1 + suc limits.column * 65538
+pub carried_length : (limits : Limits) (cs : List (ℕ × List ℕ)) → AreColumns limits cs → suc (length (flat_map column_bytes cs)) ≤ 1 + suc limits.column * 65538
 carried_length limits cs are =
     let room = few_columns limits cs are in
     let columns = columns_length limits cs are.0 in
