@@ -5,3 +5,4 @@ pub mod SortedUpdates
 pub mod Numbers
 pub mod Auditor
 pub mod Dealing
+pub mod Merging

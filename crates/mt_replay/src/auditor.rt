@@ -4,12 +4,12 @@ ghost use Rattle.std.specs.List.Sorted.{IsPartitionPoint};
 ghost use Rattle.mt_words.specs.Limits.{widest};
 ghost use Rattle.mt_words.specs.Words.{IsKey};
 ghost use Rattle.mt_replay.specs.Clashes.{Rises, AreClashes};
+ghost use Rattle.mt_replay.specs.Cuts.{InKeyOrder};
 ghost use Rattle.mt_replay.specs.Steps.Auditor.{IsLowerSeen, seen_by, seen_in, clash_at, AddClashes};
 
 use crate::bodies::Text;
 use crate::clash::{Clash, Place};
 use crate::replay::end_of_key;
-use crate::sorting::sorted_texts;
 use mt_words::{Key, Memory, Origin, Stamp};
 use std::alloc::Global;
 
@@ -20,16 +20,16 @@ struct Seen {
     place: Place,
 }
 
-/// Returns the clashes of the updates of texts, which are in any order. Err: out of memory.
-pub(crate) fn clashes_of(alloc: Global, texts: Vec<Text<'_>>) -> Result<Vec<Clash>, Memory>
-    ensures { IfOk result (λ clashes. AreClashes texts.entry.items clashes.items) }
+/// Returns the clashes of the updates of texts, which are in the order of their keys. Err: out of memory.
+pub(crate) fn clashes_of(alloc: Global, sorted: &[Text<'_>]) -> Result<Vec<Clash>, Memory>
+    requires { InKeyOrder sorted.now }
+    ensures { IfOk result (λ clashes. AreClashes sorted.now clashes.items) }
 {
-    let sorted = sorted_texts(alloc, texts)?;
     let mut clashes = Vec::new(alloc);
     let mut seen = Vec::new(alloc);
     let mut at = 0;
     while at < sorted.len() {
-        let end = end_of_key(&sorted, at);
+        let end = end_of_key(sorted, at);
         note_all(&mut seen, &sorted[at..end])?;
         keep_each_once(&mut seen);
         add_clashes(alloc, &mut clashes, sorted[at].key(), &seen)?;

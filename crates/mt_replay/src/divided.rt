@@ -1,10 +1,10 @@
 //! The surviving updates, divided by their keys into the pieces that are replayed.
-ghost use Rattle.std.specs.Prelude.{◌≡◌, ◌<◌, ◌+◌, ◌++◌, List, [], length, IfOk};
+ghost use Rattle.std.specs.Prelude.{◌≡◌, ◌<◌, ◌+◌, ◌++◌, List, [], length, IfOk, IsPermutation};
 ghost use Rattle.mt_words.specs.declared.update.Update.{Update as UpdateValue};
 ghost use Rattle.mt_words.specs.Walks.{joined};
 ghost use Rattle.mt_replay.specs.Cells.{AreApart};
 ghost use Rattle.mt_replay.specs.Clashes.{AreClashes};
-ghost use Rattle.mt_replay.specs.Cuts.{AreCuts, updates_in};
+ghost use Rattle.mt_replay.specs.Cuts.{AreCuts, InKeyOrder, updates_in};
 ghost use Rattle.mt_replay.specs.Divided.{AreRangesOf};
 ghost use Rattle.mt_replay.specs.Pieces.{IsPiece, IsMapIn};
 ghost use Rattle.mt_replay.specs.Ranges.{dealt_by};
@@ -14,7 +14,8 @@ use crate::bodies::Text;
 use crate::clash::Clash;
 use crate::dealing::Range;
 use crate::parts::add_parts;
-use crate::replay::replay_texts;
+use crate::replay::replay_sorted;
+use crate::sorting::sorted_texts;
 use crate::{Cuts, SortedUpdates};
 use mt_words::{Memory, PairSink};
 use std::alloc::Global;
@@ -106,7 +107,8 @@ impl Divided {
         ensures walk { IfOk result (λ filled. AreApart self.now.updates →
             IsPiece self.now.updates self.now.cuts piece (S.pairs filled)) }
     {
-        replay_texts(alloc, self.texts(alloc, piece)?, sink)
+        let sorted = self.texts(alloc, piece)?;
+        replay_sorted(alloc, &sorted, sink)
     }
 
     /// Returns the clashes of the updates whose keys lie in this piece, in order: by key, then by version. Entries of the
@@ -116,13 +118,15 @@ impl Divided {
         requires { piece < length self.now.cuts + 1 }
         ensures { IfOk result (λ clashes. AreClashes (updates_in self.now.cuts piece self.now.updates) clashes.items) }
     {
-        clashes_of(alloc, self.texts(alloc, piece)?)
+        let sorted = self.texts(alloc, piece)?;
+        clashes_of(alloc, &sorted)
     }
 
-    /// Returns the texts of the updates whose keys lie in this piece. Err: out of memory.
+    /// Returns the texts of the updates whose keys lie in this piece, in the order of their keys. Err: out of memory.
     fn texts(&self, alloc: Global, piece: u32) -> Result<Vec<Text<'_>>, Memory>
         requires { piece < length self.now.cuts + 1 }
-        ensures { IfOk result (λ texts. texts.items ≡ updates_in self.now.cuts piece self.now.updates) }
+        ensures same { IfOk result (λ sorted. IsPermutation (updates_in self.now.cuts piece self.now.updates) sorted.items) }
+        ensures in_order { IfOk result (λ sorted. InKeyOrder sorted.items) }
     {
         let range = &self.ranges[piece as usize];
         texts_in(alloc, range, &self.entries, &self.cuts, piece)
@@ -146,11 +150,13 @@ pub fn replay_range<S: PairSink>(
     ensures walk { IfOk result (λ filled. (logged : List UpdateValue) → range.now ≡ updates_in cuts.now piece logged →
         AreApart (logged ++ joined entries.now) → IsPiece (logged ++ joined entries.now) cuts.now piece (S.pairs filled)) }
 {
-    let texts = texts_in(alloc, range, entries, cuts, piece)?;
-    replay_texts(alloc, texts, sink)
+    let sorted = texts_in(alloc, range, entries, cuts, piece)?;
+    replay_sorted(alloc, &sorted, sink)
 }
 
-/// Returns the texts of a range, and then of those entries that lie in this piece. Err: out of memory.
+/// Returns the texts of a range and of those entries that lie in this piece, in the order of their keys. Entries of parts
+/// that follow each other are merged. All others are sorted like updates of logs.
+/// Err: out of memory.
 fn texts_in<'a>(
     alloc: Global,
     range: &'a Range,
@@ -158,9 +164,15 @@ fn texts_in<'a>(
     cuts: &Cuts,
     piece: u32,
 ) -> Result<Vec<Text<'a>>, Memory>
-    ensures { IfOk result (λ texts. texts.items ≡ range.now ++ updates_in cuts.now piece (joined entries.now)) }
+    ensures same { IfOk result (λ sorted. IsPermutation (range.now ++ updates_in cuts.now piece (joined entries.now)) sorted.items) }
+    ensures in_order { IfOk result (λ sorted. InKeyOrder sorted.items) }
 {
     let mut texts = range.texts(alloc)?;
+    let mut parts = Vec::new(alloc);
+    let rise = add_parts(&mut parts, entries, cuts, piece)?;
+    if rise {
+        return sorted_texts(alloc, texts, &parts);
+    }
     add_parts(&mut texts, entries, cuts, piece)?;
-    Ok(texts)
+    sorted_texts(alloc, texts, &[])
 }

@@ -108,7 +108,7 @@ impl SortedUpdates {
 }
 
 /// Returns whether the first key is below the second.
-fn comes_before(first: &[u8], second: &[u8]) -> bool
+pub(crate) fn comes_before(first: &[u8], second: &[u8]) -> bool
     ensures { result ≡ is_below first.now second.now }
 {
     first.cmp(second).is_lt()
@@ -120,7 +120,7 @@ pub(crate) fn in_order(alloc: Global, bodies: &Bodies) -> Result<SortedUpdates, 
 {
     let mut texts = Vec::with_capacity(alloc, bodies.len())?;
     add_texts(&mut texts, bodies)?;
-    let sorted = sorted_texts(alloc, texts)?;
+    let sorted = sorted_texts(alloc, texts, &[])?;
     gather(alloc, &sorted)
 }
 

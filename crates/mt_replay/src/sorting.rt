@@ -5,15 +5,15 @@
 //!     6 bytes of the key, after those all share    place of the text
 //!
 //! A list of more than 65,536 texts takes 32 bits for a place.
-ghost use Rattle.std.specs.Prelude.{◌≡◌, ◌≤◌, ◌<◌, ◌+◌, ◌-◌, ◌/◌, ◌%◌, ◌^◌, ℕ, IfOk, IsTrue, List, IsPermutation, slice_index_or, length, take, drop, All};
+ghost use Rattle.std.specs.Prelude.{◌≡◌, ◌≤◌, ◌<◌, ◌++◌, ◌+◌, ◌-◌, ◌/◌, ◌%◌, ◌^◌, ℕ, IfOk, IsTrue, List, IsPermutation, slice_index_or, length, take, drop, All};
 ghost use Rattle.std.specs.List.{range_with_len};
 ghost use Rattle.std.specs.Ordering.{nat_cmp};
 ghost use Rattle.std.specs.Cmp.Lexicographic.{slice_cmp};
-ghost use Rattle.mt_words.specs.declared.update.Update.{Update};
 ghost use Rattle.mt_replay.specs.Cuts.{InKeyOrder};
-ghost use Rattle.mt_replay.specs.Steps.Numbers.{places, rest_of, rests, AreInOrder, BeginsWith, in_turn};
+ghost use Rattle.mt_replay.specs.Steps.Numbers.{places, rest_of, rests, AreInOrder, BeginsWith};
 
 use crate::bodies::Text;
+use crate::merging::merge;
 use mt_words::{Memory, slice_of};
 use std::alloc::Global;
 use std::cmp::Ordering;
@@ -24,14 +24,20 @@ const ROUNDS: u32 = 8;
 /// Fewer texts than these are sorted by their whole keys.
 const FEW: usize = 16;
 
-/// Returns texts in the order of their keys. The texts of one key come in any order. Err: out of memory.
-pub(crate) fn sorted_texts<'a>(alloc: Global, texts: Vec<Text<'a>>) -> Result<Vec<Text<'a>>, Memory>
-    ensures same { IfOk result (λ sorted. IsPermutation texts.entry.items sorted.items) }
+/// Returns texts and entries in the order of their keys. The entries must be in that order already: they are merged.
+/// Those of one key come in any order. Err: out of memory.
+pub(crate) fn sorted_texts<'a>(
+    alloc: Global,
+    texts: Vec<Text<'a>>,
+    entries: &[Text<'a>],
+) -> Result<Vec<Text<'a>>, Memory>
+    requires { InKeyOrder entries.now }
+    ensures same { IfOk result (λ sorted. IsPermutation (texts.entry.items ++ entries.now) sorted.items) }
     ensures in_order { IfOk result (λ sorted. InKeyOrder sorted.items) }
 {
     let bits = bits_for(texts.len());
     let numbers = sorted_numbers(alloc, &texts, bits)?;
-    gather(alloc, &texts, &numbers, bits)
+    merge(alloc, &texts, &numbers, bits, entries)
 }
 
 /// Returns the number of bits of a place in a list of this length: 16 for all but long lists, so that 48 bits of a key
@@ -65,26 +71,8 @@ fn sorted_numbers(alloc: Global, texts: &[Text<'_>], bits: u32) -> Result<Vec<u6
     Ok(numbers)
 }
 
-/// Returns the texts at the places of the numbers. Err: out of memory.
-fn gather<'a>(
-    alloc: Global,
-    texts: &[Text<'a>],
-    numbers: &[u64],
-    bits: u32,
-) -> Result<Vec<Text<'a>>, Memory>
-    requires below { bits < 64 }
-    requires within { All (λ number. number % 2 ^ bits < length texts.now) numbers.now }
-    ensures { IfOk result (λ sorted. (d : Update) → sorted.items ≡ in_turn texts.now d (places bits numbers.now)) }
-{
-    let mut sorted = Vec::with_capacity(alloc, numbers.len())?;
-    for number in numbers {
-        sorted.push(texts[place_of(*number, bits)].copy())?;
-    }
-    Ok(sorted)
-}
-
 /// Returns the place that a number has in its lowest bits.
-fn place_of(number: u64, bits: u32) -> usize
+pub(crate) fn place_of(number: u64, bits: u32) -> usize
     requires { bits < 64 }
     ensures value { result ≡ number % 2 ^ bits }
     ensures below { result < 2 ^ bits }

@@ -9,6 +9,7 @@ ghost use Rattle.mt_replay.specs.InMemory.{is_logged_in};
 
 use super::spelling::spell;
 use crate::auditor::clashes_of;
+use crate::sorting::sorted_texts;
 use crate::{Clash, Cuts, Range, SortedUpdates, Window, replay_range};
 use mt_words::{Key, Memory, PackedColumns, Update};
 use std::alloc::Global;
@@ -47,5 +48,7 @@ pub fn clashes(alloc: Global, logs: &[Vec<Update>], window: Window) -> Result<Ve
     for updates in logs {
         range.push(spell(alloc, updates, window, false)?)?;
     }
-    clashes_of(alloc, range.texts(alloc)?)
+    let texts = range.texts(alloc)?;
+    let sorted = sorted_texts(alloc, texts, &[])?;
+    clashes_of(alloc, &sorted)
 }

@@ -1,10 +1,16 @@
+use Rattle.std.proofs.Common.{sym, subst}
 use Rattle.std.proofs.lemmas.Result.{IfOk-weaker}
+use Rattle.mt_replay.specs.Cuts.{InKeyOrder}
 use Rattle.mt_replay.proofs.PieceLemmas.{map_made, piece_made}
 use Rattle.mt_replay.proofs.divided.Divided.replay_into.Goals as goal
 
+pub replay_sorted-requires-clause-in_order : goal.replay_sorted-requires-clause-in_order
+replay_sorted-requires-clause-in_order g c = subst InKeyOrder (sym c.deref.ensures.value) c.in_ok-sorted.ensures.in_order
+
 pub returns : goal.returns
 returns g c =
+    let made = rw c.deref.ensures.value at c.replay_sorted.ensures in
     record {
-      map = IfOk-weaker c.replay_texts.result _ _ (λ filled. map_made c.args.self.now.cuts c.args.piece c.args.self.now.updates _ (g.S.PairSink.pairs filled) c.in_ok-texts.ensures) c.replay_texts.ensures;
-      walk = IfOk-weaker c.replay_texts.result _ _ (λ filled. piece_made c.args.self.now.cuts c.args.piece c.args.self.now.updates _ (g.S.PairSink.pairs filled) c.in_ok-texts.ensures) c.replay_texts.ensures;
+      map = IfOk-weaker c.replay_sorted.result _ _ (λ filled. map_made c.args.self.now.cuts c.args.piece c.args.self.now.updates _ (g.S.PairSink.pairs filled) c.in_ok-sorted.ensures.same) made;
+      walk = IfOk-weaker c.replay_sorted.result _ _ (λ filled. piece_made c.args.self.now.cuts c.args.piece c.args.self.now.updates _ (g.S.PairSink.pairs filled) c.in_ok-sorted.ensures.same) made;
     }
