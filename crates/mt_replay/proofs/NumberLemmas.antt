@@ -14,7 +14,7 @@ use borrow.Rule.Slice.PartMut.{mid_of, put_mid}
 use Rattle.std.proofs.lemmas.Grind.{common_steps}
 use Rattle.mt_words.specs.declared.update.Update.{Update}
 use Rattle.mt_replay.specs.Cuts.{is_below, InKeyOrder}
-use Rattle.mt_replay.specs.Steps.Numbers.{places, in_turn, rest_at, rest_in, rest_of, rests, AreInOrder}
+use Rattle.mt_replay.specs.Steps.Numbers.{AreAlike, places, in_turn, rest_at, rest_in, rest_of, rests, AreInOrder}
 use Rattle.std.specs.Cmp.Lexicographic.{slice_cmp}
 use Rattle.std.specs.Ordering.{nat_cmp, is_lt}
 use Rattle.std.proofs.lemmas.Cmp.{nat_list_cmp_total, tied_itself}
@@ -139,3 +139,22 @@ in_turn_in_order bits updates d numbers within sorted = λ k e low high.
     ∙ sym (get_or-map (rest_of bits updates 0) numbers i 0 [] below ∙ whole_rest updates (get_or numbers i 0 % 2 ^ bits) d (within i 0 below)) in
     (λ i. is_below (key (k + 1) (omega (arith, high, size)) i) (key k (omega (arith, high, size)) i))
     ∙ sorted k [] low (omega (arith, high, size, length-map numbers (rest_of bits updates 0)))
+
+-- ---- keys that begin alike
+
+pub alike_none : (updates : List Update) → AreAlike 0 updates
+alike_none updates = ([], λ k d low. refl)
+
+-- the rests of all updates begin alike if their keys do
+pub alike_rests : (bits : ℕ) (updates : List Update) (depth : ℕ) (d : Update) (numbers : List ℕ) → AreAlike depth updates → places bits numbers ≡ range_with_len 0 (length updates)
+    → (shared : List ℕ) × All (λ rest. take depth rest ≡ shared) (rests bits updates 0 numbers)
+alike_rests bits updates depth d numbers alike all = (
+  alike.0,
+  λ k e low.
+      let place : ℕ → ℕ = λ number. number % 2 ^ bits in
+      let size : length numbers ≡ length updates = sym (length-map numbers place) ∙ ap (λ (ps : List ℕ). length ps) all ∙ length-range_with_len 0 (length updates) in
+      let within : k < length numbers = omega (arith, low, length-map numbers (rest_of bits updates 0)) in
+      let first : 0 + k ≡ k = omega arith in
+      let at : get_or numbers k 0 % 2 ^ bits ≡ k = sym (get_or-map place numbers k 0 0 within) ∙ ap (λ (ps : List ℕ). get_or ps k 0) all ∙ get_or-range_with_len 0 (length updates) k 0 (omega (arith, within, size)) ∙ first in
+      ap (take depth) (get_or-map (rest_of bits updates 0) numbers k 0 e within ∙ ap (rest_in updates 0) at ∙ whole_rest updates k d (omega (arith, within, size))) ∙ alike.1 k d (omega (arith, within, size)),
+)

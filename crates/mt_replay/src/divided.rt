@@ -13,7 +13,7 @@ use crate::auditor::clashes_of;
 use crate::bodies::Text;
 use crate::clash::Clash;
 use crate::dealing::Range;
-use crate::parts::add_parts;
+use crate::parts::{add_parts, shared_in};
 use crate::replay::replay_sorted;
 use crate::sorting::sorted_texts;
 use crate::{Cuts, SortedUpdates};
@@ -154,8 +154,8 @@ pub fn replay_range<S: PairSink>(
     replay_sorted(alloc, &sorted, sink)
 }
 
-/// Returns the texts of a range and of those entries that lie in this piece, in the order of their keys. Entries of parts
-/// that follow each other are merged. All others are sorted like updates of logs.
+/// Returns the texts of a range, whose updates lie in this piece, and of those entries that lie in it, in the order of
+/// their keys. Entries of parts that follow each other are merged. All others are sorted like updates of logs.
 /// Err: out of memory.
 fn texts_in<'a>(
     alloc: Global,
@@ -164,15 +164,17 @@ fn texts_in<'a>(
     cuts: &Cuts,
     piece: u32,
 ) -> Result<Vec<Text<'a>>, Memory>
+    requires { (logged : List UpdateValue) × (range.now ≡ updates_in cuts.now piece logged) }
     ensures same { IfOk result (λ sorted. IsPermutation (range.now ++ updates_in cuts.now piece (joined entries.now)) sorted.items) }
     ensures in_order { IfOk result (λ sorted. InKeyOrder sorted.items) }
 {
+    let depth = shared_in(cuts, piece);
     let mut texts = range.texts(alloc)?;
     let mut parts = Vec::new(alloc);
     let rise = add_parts(&mut parts, entries, cuts, piece)?;
     if rise {
-        return sorted_texts(alloc, texts, &parts);
+        return sorted_texts(alloc, texts, depth, &parts);
     }
     add_parts(&mut texts, entries, cuts, piece)?;
-    sorted_texts(alloc, texts, &[])
+    sorted_texts(alloc, texts, depth, &[])
 }

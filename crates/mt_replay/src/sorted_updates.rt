@@ -115,12 +115,13 @@ pub(crate) fn comes_before(first: &[u8], second: &[u8]) -> bool
 }
 
 /// Copies these bodies in the order of their keys. Err: out of memory.
+#[tactic(auto, using(crate::proofs::NumberLemmas::alike_none))]
 pub(crate) fn in_order(alloc: Global, bodies: &Bodies) -> Result<SortedUpdates, Memory>
     ensures { IfOk result (λ sorted. IsPermutation bodies.now sorted) }
 {
     let mut texts = Vec::with_capacity(alloc, bodies.len())?;
     add_texts(&mut texts, bodies)?;
-    let sorted = sorted_texts(alloc, texts, &[])?;
+    let sorted = sorted_texts(alloc, texts, 0, &[])?;
     gather(alloc, &sorted)
 }
 

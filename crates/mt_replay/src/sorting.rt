@@ -10,7 +10,7 @@ ghost use Rattle.std.specs.List.{range_with_len};
 ghost use Rattle.std.specs.Ordering.{nat_cmp};
 ghost use Rattle.std.specs.Cmp.Lexicographic.{slice_cmp};
 ghost use Rattle.mt_replay.specs.Cuts.{InKeyOrder};
-ghost use Rattle.mt_replay.specs.Steps.Numbers.{places, rest_of, rests, AreInOrder, BeginsWith};
+ghost use Rattle.mt_replay.specs.Steps.Numbers.{places, rest_of, rests, AreInOrder, BeginsWith, AreAlike};
 
 use crate::bodies::Text;
 use crate::merging::merge;
@@ -24,19 +24,22 @@ const ROUNDS: u32 = 8;
 /// Fewer texts than these are sorted by their whole keys.
 const FEW: usize = 16;
 
-/// Returns texts and entries in the order of their keys. The entries must be in that order already: they are merged.
-/// Those of one key come in any order. Err: out of memory.
+/// Returns texts and entries in the order of their keys. The keys of the texts must have their first `depth` bytes in
+/// common. The entries must be in the order of their keys already: they are merged. Those of one key come in any order.
+/// Err: out of memory.
 pub(crate) fn sorted_texts<'a>(
     alloc: Global,
     texts: Vec<Text<'a>>,
+    depth: u32,
     entries: &[Text<'a>],
 ) -> Result<Vec<Text<'a>>, Memory>
-    requires { InKeyOrder entries.now }
+    requires alike { AreAlike depth texts.items }
+    requires in_order { InKeyOrder entries.now }
     ensures same { IfOk result (λ sorted. IsPermutation (texts.entry.items ++ entries.now) sorted.items) }
     ensures in_order { IfOk result (λ sorted. InKeyOrder sorted.items) }
 {
     let bits = bits_for(texts.len());
-    let numbers = sorted_numbers(alloc, &texts, bits)?;
+    let numbers = sorted_numbers(alloc, &texts, bits, depth)?;
     merge(alloc, &texts, &numbers, bits, entries)
 }
 
@@ -56,9 +59,16 @@ fn bits_for(length: usize) -> u32
     63
 }
 
-/// Returns numbers of all texts, in the order of their keys. Err: out of memory.
-fn sorted_numbers(alloc: Global, texts: &[Text<'_>], bits: u32) -> Result<Vec<u64>, Memory>
+/// Returns numbers of all texts, in the order of their keys, which have their first `depth` bytes in common.
+/// Err: out of memory.
+fn sorted_numbers(
+    alloc: Global,
+    texts: &[Text<'_>],
+    bits: u32,
+    depth: u32,
+) -> Result<Vec<u64>, Memory>
     requires below { bits < 64 }
+    requires alike { AreAlike depth texts.now }
     requires fits { length texts.now ≤ 2 ^ bits }
     ensures same { IfOk result (λ numbers. IsPermutation (range_with_len 0 (length texts.now)) (places bits numbers.items)) }
     ensures in_order { IfOk result (λ numbers. AreInOrder (rests bits texts.now 0 numbers.items)) }
@@ -67,8 +77,23 @@ fn sorted_numbers(alloc: Global, texts: &[Text<'_>], bits: u32) -> Result<Vec<u6
     for place in 0..texts.len() {
         numbers.push(place as u64)?;
     }
-    sort_run(&mut numbers, texts, bits, 0, ROUNDS);
+    sort_alike(&mut numbers, texts, bits, depth);
     Ok(numbers)
+}
+
+/// Sorts numbers by their texts' keys, which have their first `depth` bytes in common. If that is not known, `depth` is 0,
+/// and they are searched for what they have in common.
+fn sort_alike(numbers: &mut [u64], texts: &[Text<'_>], bits: u32, depth: u32)
+    requires below { bits < 64 }
+    requires alike { (shared : List ℕ) × All (λ rest. take depth rest ≡ shared) (rests bits texts.now 0 numbers.old) }
+    ensures same { IsPermutation (places bits numbers.old) (places bits numbers.new) }
+    ensures in_order { AreInOrder (rests bits texts.now 0 numbers.new) }
+{
+    if depth == 0 {
+        sort_run(numbers, texts, bits, 0, ROUNDS);
+        return;
+    }
+    sort_from(numbers, texts, bits, depth, ROUNDS);
 }
 
 /// Returns the place that a number has in its lowest bits.
@@ -217,7 +242,7 @@ fn shared_depth(numbers: &[u64], texts: &[Text<'_>], bits: u32, depth: u32) -> u
 }
 
 /// Returns what both begin with.
-fn common_start<'a>(first: &'a [u8], second: &[u8]) -> &'a [u8]
+pub(crate) fn common_start<'a>(first: &'a [u8], second: &[u8]) -> &'a [u8]
     ensures shorter { length result.now ≤ length first.now }
     ensures first { take (length result.now) first.now ≡ result.now }
     ensures second { take (length result.now) second.now ≡ result.now }

@@ -1,5 +1,5 @@
 -- Numbers by which updates are sorted: each has the head of a rest, and in its lowest bits the place of an update in a list. The rest is what follows some bytes of the update's key.
-use Rattle.std.specs.Prelude.{◌≡◌, ℕ, ◌/◌, ◌%◌, ◌^◌, ◌<◌, slice_index_or, slice_get, Option, Some, None, List, [], map, drop, All}
+use Rattle.std.specs.Prelude.{◌≡◌, ℕ, ◌/◌, ◌%◌, ◌^◌, ◌<◌, slice_index_or, slice_get, Option, Some, None, List, [], map, take, drop, All}
 use Rattle.std.specs.List.Sorted.{IsSortedBy, IsNonDecreasing}
 use Rattle.mt_words.specs.declared.update.Update.{Update}
 use Rattle.mt_words.specs.Slices.{AreBytes, slice_in}
@@ -12,6 +12,10 @@ places bits numbers = map (λ number. number % 2 ^ bits) numbers
 -- the updates at some places, in their order
 abbrev pub in_turn : List Update → Update → List ℕ → List Update
 in_turn updates d numbers = map (λ place. slice_index_or updates place d) numbers
+
+-- the keys of the updates have their first `depth` bytes in common
+abbrev pub AreAlike : ℕ → List Update → Type 0
+AreAlike depth updates = (shared : List ℕ) × All (λ (update : Update). take depth update.key ≡ shared) updates
 
 -- what follows the first `depth` bytes of the key of an update, if there is one
 abbrev pub rest_at : ℕ → Option Update → List ℕ

@@ -6,8 +6,8 @@ use Rattle.mt_words.specs.declared.update.Update.{Update}
 use Rattle.mt_replay.proofs.MergeLemmas.{none_in_order}
 use Rattle.mt_replay.proofs.sorted_updates.in_order.Goals as goal
 
-pub sorted_texts-requires : goal.sorted_texts-requires
-sorted_texts-requires c = none_in_order
+pub sorted_texts-requires-clause-in_order : goal.sorted_texts-requires-clause-in_order
+sorted_texts-requires-clause-in_order c = none_in_order
 
 pub returns : goal.returns
 returns c =

@@ -24,3 +24,9 @@ returns-clause-same c =
     of_texts cuts (joined ranges) held range (range ++ updates_in cuts i (joined c.deref.result.now)) i own (ap (λ (ls : List (List Update)). range ++ updates_in cuts i (joined ls)) c.deref.ensures.value)
     ∙ ap (λ (d : DividedView). updates_in d.cuts i d.updates) c.self.view_is in
     IfOk-weaker c.texts_in.result _ _ (λ sorted. subst (λ (us : List Update). IsPermutation us sorted.items) are) c.texts_in.ensures.same
+
+pub texts_in-requires : goal.texts_in-requires
+texts_in-requires c =
+    let cuts = c.self.inside.cuts in
+    let ranges = c.self.inside.ranges.items in
+    (joined ranges, own_range cuts ranges c.args.piece c.index-range.result.now c.self.invariant (omega (arith, c.requires, ap (λ (d : DividedView). length d.cuts) c.self.view_is)) c.index-range.ensures)

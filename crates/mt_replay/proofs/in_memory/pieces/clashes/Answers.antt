@@ -10,8 +10,8 @@ use Rattle.mt_replay.proofs.MergeLemmas.{none_in_order}
 use Rattle.mt_replay.proofs.AuditorLemmas.{moved_clashes}
 use Rattle.mt_replay.proofs.in_memory.pieces.clashes.Goals as goal
 
-pub sorted_texts-requires : goal.sorted_texts-requires
-sorted_texts-requires c = none_in_order
+pub sorted_texts-requires-clause-in_order : goal.sorted_texts-requires-clause-in_order
+sorted_texts-requires-clause-in_order c = none_in_order
 
 pub clashes_of-requires : goal.clashes_of-requires
 clashes_of-requires c = subst InKeyOrder (sym c.deref-2.ensures.value) c.in_ok-sorted.ensures.in_order
