@@ -10,6 +10,7 @@ use crate::host::{Host, Lock, Run};
 use crate::request::NewFolder;
 use crate::row::{Cell, write_row};
 use crate::saving::{Site, make_folder};
+use crate::watching::Look;
 use mt_checkpoint::{Checkpoint, PlanFault};
 use mt_recover::{Recovered, Report};
 use std::alloc::Global;
@@ -29,18 +30,50 @@ impl<'a, R: Host> Run<'a, R> {
         out: &mut O,
         err: &mut E,
     ) -> Result<Option<Caveat>, Halt<'a>> {
+        let looks = self.look_at_logs()?;
         let recovered = self.recover(err)?;
         let checkpoint = plan_of(self.rt.alloc(), new, &recovered)?;
         if u64::from(checkpoint.parts()) >= self.folder.most_files {
             return Err(Halt::from(PlanFault::Parts));
         }
-        write_all(self.rt, new, &checkpoint)?;
+        self.write_all(&looks, new, &checkpoint)?;
         write_line(new.number, checkpoint.parts(), recovered.report(), out)?;
         out.flush()?;
         self.folder.tell_losses(Losses::of(recovered.report()), err);
         mem::forget(checkpoint);
         mem::forget(recovered);
         Ok(None)
+    }
+
+    /// Writes the parts of the checkpoint into the new folder, which is locked meanwhile, and then the log, if the logs are as
+    /// they were in these looks.
+    fn write_all(
+        &self,
+        looks: &[Option<Look>],
+        new: &NewFolder<'_>,
+        checkpoint: &Checkpoint<'_>,
+    ) -> Result<(), Halt<'static>> {
+        make_folder(self.rt, new.path)?;
+        let site = Site {
+            rt: self.rt,
+            folder: new.path,
+            advice: "delete the new folder, which is no store yet, and run it again",
+        };
+        let _lock = site.tell("lock", new.path, lock_at(self.rt, new.path))?;
+        let salt = site.salt()?;
+        for part in 0..checkpoint.parts() {
+            let name = format!(in self.rt.alloc(); "{}-{part}.mtc", new.number)?;
+            let salt = salt.wrapping_add(u64::from(part));
+            let written = write_part(&site, checkpoint, salt, part, name.as_str());
+            site.tell("write", name.as_str(), written)?;
+        }
+        // The log counts, so all parts must be there before it.
+        site.sync()?;
+        self.expect_unchanged(looks)?;
+        let salt = salt.wrapping_add(u64::from(checkpoint.parts()));
+        let log = checkpoint.log(self.rt.alloc(), salt)?;
+        site.write(LOG, LOG, &log)?;
+        site.sync()
     }
 }
 
@@ -76,33 +109,6 @@ fn write_line<O: Write>(number: u32, parts: u16, report: &Report, out: &mut O) -
         ("version", Cell::Number(Some(report.version))),
     ];
     write_row(&row, false, out)
-}
-
-/// Writes the parts of the checkpoint into the new folder, which is locked meanwhile, and then the log.
-fn write_all<R: Host>(
-    rt: &R,
-    new: &NewFolder<'_>,
-    checkpoint: &Checkpoint<'_>,
-) -> Result<(), Halt<'static>> {
-    make_folder(rt, new.path)?;
-    let site = Site {
-        rt,
-        folder: new.path,
-        advice: "delete the new folder, which is no store yet, and run it again",
-    };
-    let _lock = site.tell("lock", new.path, lock_at(rt, new.path))?;
-    let salt = site.salt()?;
-    for part in 0..checkpoint.parts() {
-        let name = format!(in rt.alloc(); "{}-{part}.mtc", new.number)?;
-        let salt = salt.wrapping_add(u64::from(part));
-        let written = write_part(&site, checkpoint, salt, part, name.as_str());
-        site.tell("write", name.as_str(), written)?;
-    }
-    // The log counts, so all parts must be there before it.
-    site.sync()?;
-    let log = checkpoint.log(rt.alloc(), salt.wrapping_add(u64::from(checkpoint.parts())))?;
-    site.write(LOG, LOG, &log)?;
-    site.sync()
 }
 
 /// Locks the folder of this path until what is returned is dropped.

@@ -221,10 +221,10 @@ const OTHERS: &[Subcommand] = subcommands! {
         "Prints what is in each log, part and checkpoint, all that is wrong, and where recovery begins",
         "Example: mtrecover check examples/store";
     "resume", [FOLDER, WORKERS, FILES, FILE_BYTES, VERBOSE, PROGRESS, JSON, STRICT_RESUME, DRY_RUN, NO_LOGS],
-        "Makes the logs and parts those with which a server goes on after a crash; the store stays the same",
+        "Makes the logs and parts those with which a server goes on after a crash; the store stays the same. The server must be down",
         "Example: mtrecover resume DIR --dry-run";
     "checkpoint", [FOLDER, WORKERS, FILES, FILE_BYTES, VERBOSE, PROGRESS, PIECES, OUT, NUMBER, PART_LIMIT],
-        "Writes the store as a checkpoint and a log into a new folder",
+        "Writes the store as a checkpoint and a log into a new folder. The server must be down",
         "Example: mtrecover checkpoint examples/store fresh";
     "records", [LOG_OR_PART, VERBOSE, FROM, LIMIT, RECORD_KEY, AT, JSON],
         "Prints the records of a log, or the entries of a part, with their numbers and the bytes where they begin",

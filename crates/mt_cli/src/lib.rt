@@ -51,6 +51,7 @@ mod shell;
 mod stop;
 mod texts;
 mod tracing;
+mod watching;
 mod ways;
 mod words;
 

@@ -9,6 +9,7 @@ use crate::host::{Host, Run};
 use crate::request::Resume;
 use crate::row::{Cell, write_row};
 use crate::saving::Site;
+use crate::watching::Look;
 use mt_record::resume_log;
 use std::io::{BufWriter, Write};
 
@@ -31,6 +32,7 @@ impl<'a, R: Host> Run<'a, R> {
         for name in &self.names.logs {
             site.expect(name.as_str(), false)?;
         }
+        let looks = self.look_at_logs()?;
         let checked = self.check_all(err)?;
         let losses = checked.losses();
         let version = checked.version();
@@ -64,6 +66,7 @@ impl<'a, R: Host> Run<'a, R> {
                 site.sync_file(name.as_str())?;
             }
             site.sync()?;
+            self.expect_unchanged(&looks)?;
             delete_parts(&site, &mut parts, chosen)?;
             if let (Some(log), Some(model)) = (&begun, self.names.logs.first()) {
                 log.write(&site, model.as_str())?;
@@ -80,9 +83,10 @@ impl<'a, R: Host> Run<'a, R> {
             write_row(&row, how.is_json, &mut out)?;
         }
         let mut last = cutoff;
-        for (log, name) in self.names.logs.iter().enumerate() {
+        for ((log, name), look) in self.names.logs.iter().enumerate().zip(&looks) {
             let salt = salt.wrapping_add(log as u64);
-            if replace_log(&site, log, name.as_str(), cutoff, salt, how, &mut out)? {
+            let file = (name.as_str(), *look);
+            if replace_log(&site, log, file, cutoff, salt, how, &mut out)? {
                 last = u64::MAX;
             }
         }
@@ -147,12 +151,12 @@ fn spoil<R: Host>(
     Ok(())
 }
 
-/// Replaces a log, if it is not resumed yet, prints its line, and returns whether it was ended. A log of format 4 is always
+/// Replaces a log, if it is not resumed yet and is as it was in the look, prints its line, and returns whether it was ended. A log of format 4 is always
 /// replaced, by a file with this salt: so no block of the old file is one of the new file, wherever the disk puts it.
 fn replace_log<R: Host, O: Write>(
     site: &Site<'_, R>,
     log: usize,
-    name: &str,
+    (name, look): (&str, Option<Look>),
     cutoff: u64,
     salt: u64,
     how: Resume,
@@ -164,7 +168,7 @@ fn replace_log<R: Host, O: Write>(
         Err(fault) => return Err(Halt::from(fault.of_log(log))),
     };
     if new.changed && !how.is_dry {
-        site.replace(name, &new.front, new.records, &new.marks)?;
+        site.replace(name, look, &new.front, new.records, &new.marks)?;
     }
     let after = new
         .front

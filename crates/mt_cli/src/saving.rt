@@ -2,6 +2,7 @@
 use crate::halt::Halt;
 use crate::host::Host;
 use crate::sealed::PART_HEADER;
+use crate::watching::{Look, changed};
 use mt_record::{PART_HEADER_BYTES, is_sealed_part};
 use mt_recover::{Failure, Refusal};
 use std::alloc::AllocError;
@@ -73,20 +74,24 @@ impl<'a, R: Host> Site<'a, R> {
         self.tell_synced(self.folder, sync_path(self.rt, self.folder))
     }
 
-    /// Gives the file of this name these bytes, one after the other, in one step. It keeps its owner, its group and its mode.
+    /// Gives the log of this name these bytes, one after the other, in one step. It keeps its owner, its group and its mode.
+    /// Refuses if it is not as it was in this look, which came before it was read.
     pub fn replace(
         &self,
         name: &str,
+        look: Option<Look>,
         header: &[u8],
         records: &[u8],
         marks: &[u8],
     ) -> Result<(), Halt<'static>> {
         let path = self.path(name)?;
-        self.tell(
-            "replace",
-            name,
-            self.put(&path, &path, header, records, marks),
-        )
+        let written = self.prepare(&path, &path, header, records, marks);
+        self.tell("replace", name, written)?;
+        if Look::at(self.rt, &path) != look {
+            self.give_up(&path);
+            return Err(changed(self.rt.alloc(), name));
+        }
+        self.tell("replace", name, self.rename(&path))
     }
 
     /// Leaves of a part its header alone, so that it is broken.
@@ -154,11 +159,37 @@ impl<'a, R: Host> Site<'a, R> {
         records: &[u8],
         marks: &[u8],
     ) -> io::Result<()> {
+        self.prepare(path, model, header, records, marks)?;
+        self.rename(path)
+    }
+
+    /// Writes a file of these bytes, one after the other, under the unfinished name of this path, and syncs it.
+    fn prepare(
+        &self,
+        path: &PathBuf,
+        model: &PathBuf,
+        header: &[u8],
+        records: &[u8],
+        marks: &[u8],
+    ) -> io::Result<()> {
         let mut file = self.begin(path, model)?;
         file.write_all(header)?;
         file.write_all(records)?;
         file.write_all(marks)?;
-        self.finish(file, path)
+        file.sync_all()
+    }
+
+    /// Gives the unfinished file of this path, which is synced, its name.
+    fn rename(&self, path: &PathBuf) -> io::Result<()> {
+        let unfinished = path.with_added_extension(self.rt.alloc(), UNFINISHED)?;
+        fs::rename(self.rt, &unfinished, path)
+    }
+
+    /// Deletes the unfinished file of this path. If it stays, it is ignored, as after a crash.
+    fn give_up(&self, path: &PathBuf) {
+        if let Ok(unfinished) = path.with_added_extension(self.rt.alloc(), UNFINISHED) {
+            let _ = fs::remove_file(self.rt, &unfinished);
+        }
     }
 
     /// Begins the file of this path under its unfinished name, in place of one that a crash may have left. It gets the owner,
@@ -190,9 +221,8 @@ impl<'a, R: Host> Site<'a, R> {
 
     /// Syncs a file that was begun, and gives it its name.
     pub fn finish(&self, file: R::File, path: &PathBuf) -> io::Result<()> {
-        let unfinished = path.with_added_extension(self.rt.alloc(), UNFINISHED)?;
         file.sync_all()?;
-        fs::rename(self.rt, &unfinished, path)
+        self.rename(path)
     }
 }
 
@@ -248,10 +278,7 @@ pub fn finish_path<R: Host>(rt: &R, path: &str, file: R::File) -> Result<(), Hal
 /// Deletes a file that was begun for this path, and returns why it is not written.
 pub fn give_up_path<'a, R: Host>(rt: &R, path: &str, halt: Halt<'a>) -> Halt<'a> {
     if let Ok(target) = Path::new("").join(rt.alloc(), path) {
-        if let Ok(unfinished) = target.with_added_extension(rt.alloc(), UNFINISHED) {
-            // If it stays, it is ignored, as after a crash.
-            let _ = fs::remove_file(rt, &unfinished);
-        }
+        site_of(rt, path).give_up(&target);
     }
     match halt {
         Halt::Refused(
