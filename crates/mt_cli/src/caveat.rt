@@ -1,6 +1,7 @@
 //! Why a command that did its work does not end with status 0.
 ghost use Rattle.std.specs.Prelude.{◌≤◌};
 
+use crate::loss::Loss;
 use crate::request::Folder;
 use mt_recover::Report;
 use std::fmt::{self, Display, Formatter};
@@ -13,15 +14,22 @@ pub enum Caveat {
     No,
     /// Something was lost or passed over, and was not to be.
     Losses(Losses),
+    /// More was lost than a crash loses, so nothing was done.
+    Loss(Loss),
 }
 
 impl Caveat {
     /// Prints the losses on `err`, if there are some, and returns the exit status, also after a write error.
     pub fn tell<E: io::Write>(&self, err: &mut E) -> u8
-        ensures { result ≤ 4 }
+        ensures { result ≤ 5 }
     {
-        if let Caveat::Losses(losses) = self {
-            losses.tell(err);
+        match self {
+            Caveat::No => {}
+            Caveat::Losses(losses) => losses.tell(err),
+            Caveat::Loss(loss) => {
+                loss.tell(err);
+                return 5;
+            }
         }
         4
     }

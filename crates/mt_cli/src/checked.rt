@@ -4,6 +4,7 @@ use crate::caveat::Losses;
 use crate::ending::Ending;
 use crate::fates::{Fate, PartState, numbers_of};
 use crate::row::{Cell, Field, write_row};
+use crate::sealed::PART_HEADER;
 use mt_record::{LogFront, Rest, Segment};
 use mt_recover::{LogCheck, Refusal, Start};
 use mt_words::Fault;
@@ -93,7 +94,7 @@ impl<'a> Checked<'a> {
 
     /// Returns the first file that ends at the cutoff, as does the log that it belongs to. Of a worker's log it is the newest
     /// segment that does, to which the worker may go on to append.
-    fn log_of(&self, cutoff: u64) -> Option<u64> {
+    pub fn log_of(&self, cutoff: u64) -> Option<u64> {
         for (number, log) in self.logs.iter().enumerate() {
             if matches!(log.front(), Some(front) if self.ends_log(front, cutoff)) {
                 return Some(number as u64);
@@ -174,17 +175,24 @@ impl<'a> Checked<'a> {
         };
         let mut torn: u128 = 0;
         let mut holes: u128 = 0;
-        let mut late: u128 = 0;
         for log in &self.logs {
             torn = torn.saturating_add(u128::from(log.is_torn()));
             holes = holes.saturating_add(u128::from(log.hole.is_some()));
+        }
+        let skipped = start.choice.skipped.len() as u128;
+        let nameless = start.choice.nameless.len() as u128;
+        Losses::new([torn, holes, self.late(), skipped, nameless])
+    }
+
+    /// Returns the number of late updates, if there is a cutoff.
+    pub fn late(&self) -> u128 {
+        let mut late: u128 = 0;
+        for log in &self.logs {
             if let Ok(check) = &log.check {
                 late = late.saturating_add(u128::from(check.late));
             }
         }
-        let skipped = start.choice.skipped.len() as u128;
-        let nameless = start.choice.nameless.len() as u128;
-        Losses::new([torn, holes, late, skipped, nameless])
+        late
     }
 }
 
@@ -312,6 +320,16 @@ impl CheckedLog<'_> {
 }
 
 impl CheckedPart<'_> {
+    /// Returns whether it is a part of this checkpoint and broken, but not by a resume that was stopped: that leaves its header.
+    pub fn is_damaged(&self, number: u32) -> bool {
+        match self.state {
+            PartState::Broken { checkpoint, .. } => {
+                checkpoint == number && self.file.size.is_none_or(|size| size > PART_HEADER as u64)
+            }
+            _ => false,
+        }
+    }
+
     /// Returns its line. The reason ends it, since it has blanks.
     fn fields(&self, number: usize) -> [Field<'_>; 11] {
         let [checkpoint, place, parts, begin, end, entries] = match self.state {

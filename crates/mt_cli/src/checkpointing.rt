@@ -32,6 +32,17 @@ impl<'a, R: Host> Run<'a, R> {
     ) -> Result<Option<Caveat>, Halt<'a>> {
         let looks = self.look_at_logs()?;
         let recovered = self.recover(err)?;
+        if Losses::of(recovered.report()).is_some() {
+            // Only a check tells which file shows it.
+            let checked = self.check_all(err)?;
+            if let Some(loss) = checked.loss(self.rt.alloc(), new.budget.most_late)? {
+                if !new.budget.accepts_loss {
+                    mem::forget(recovered);
+                    return Ok(Some(Caveat::Loss(loss)));
+                }
+                loss.tell(err);
+            }
+        }
         let checkpoint = plan_of(self.rt.alloc(), new, &recovered)?;
         if u64::from(checkpoint.parts()) >= self.folder.most_files {
             return Err(Halt::from(PlanFault::Parts));

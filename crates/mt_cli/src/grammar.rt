@@ -1,5 +1,5 @@
 //! The arguments that the program takes.
-use self::Kind::{Flag, From, List, Number, OneOf, UpTo, Value, Word};
+use self::Kind::{Flag, From, List, Most, Number, OneOf, UpTo, Value, Word};
 use clap::builder::ValueParser;
 use clap::{Arg, ArgAction, Command};
 use mt_record::ENOUGH_RECORDS;
@@ -10,7 +10,8 @@ use std::alloc::{AllocError, Global};
 /// The exit statuses.
 pub const STATUSES: &str =
     "Exit status: 0 done, 1 a fault (no store), 2 bad arguments, 3 folder, file or output failed,\n\
-     4 done, but the answer is no, or something was torn, late or skipped";
+     4 done, but the answer is no, or something was torn, late or skipped,\n\
+     5 nothing done: more would be lost than a crash loses";
 
 /// What a shell asks for a line with. A blank follows.
 pub const PROMPT: &str = "mtrecover>";
@@ -54,6 +55,8 @@ enum Kind {
     UpTo(&'static str, u64, &'static str),
     /// An option with a value of this name, which is a number from this one to that one.
     From(&'static str, u64, u64),
+    /// An option with a value of this name, which is a number from 0 on, and by itself this number.
+    Most(&'static str, &'static str),
     /// An option with a list of numbers from 0 to this one.
     List(u64),
 }
@@ -124,6 +127,12 @@ pub const DRY_RUN: Argument =
 pub const NO_LOGS: Argument = argument! { "no-logs", Flag,
     "If there is no log, begin one above the end of the best checkpoint. What logs had from its begin on is lost, \
     unless they were deleted because it stands for them" };
+
+pub const MAX_LATE: Argument = argument! { "max-late", Most("N", "10000"),
+    "Change nothing, and end with status 5, if more updates than this are late. A crash leaves some" };
+
+pub const ACCEPT_LOSS: Argument = argument! { "accept-loss", Flag,
+    "Go on whatever is lost: more late updates, a hole between segments, records after a torn tail, a damaged checkpoint that is newer than the chosen one" };
 
 pub const OUTPUT: Argument =
     argument! { "output", Value("OUT"), "Write into this file, which may be FILE itself, in one step, and sync it" };
@@ -220,10 +229,10 @@ const OTHERS: &[Subcommand] = subcommands! {
     "check", [FOLDER, WORKERS, FILES, FILE_BYTES, VERBOSE, PROGRESS, JSON, CHART, WIDTH],
         "Prints what is in each log, part and checkpoint, all that is wrong, and where recovery begins",
         "Example: mtrecover check examples/store";
-    "resume", [FOLDER, WORKERS, FILES, FILE_BYTES, VERBOSE, PROGRESS, JSON, STRICT_RESUME, DRY_RUN, NO_LOGS],
+    "resume", [FOLDER, WORKERS, FILES, FILE_BYTES, VERBOSE, PROGRESS, JSON, STRICT_RESUME, DRY_RUN, NO_LOGS, MAX_LATE, ACCEPT_LOSS],
         "Makes the logs and parts those with which a server goes on after a crash; the store stays the same. The server must be down",
         "Example: mtrecover resume DIR --dry-run";
-    "checkpoint", [FOLDER, WORKERS, FILES, FILE_BYTES, VERBOSE, PROGRESS, PIECES, OUT, NUMBER, PART_LIMIT],
+    "checkpoint", [FOLDER, WORKERS, FILES, FILE_BYTES, VERBOSE, PROGRESS, PIECES, OUT, NUMBER, PART_LIMIT, MAX_LATE, ACCEPT_LOSS],
         "Writes the store as a checkpoint and a log into a new folder. The server must be down",
         "Example: mtrecover checkpoint examples/store fresh";
     "records", [LOG_OR_PART, VERBOSE, FROM, LIMIT, RECORD_KEY, AT, JSON],
@@ -319,6 +328,9 @@ impl Argument {
             Kind::From(value, least, greatest) => option(arg, name, value).value_parser(
                 ValueParser::unsigned(least, greatest),
             ),
+            Kind::Most(value, default) => option(arg, name, value)
+                .value_parser(ValueParser::unsigned(0, u64::MAX))
+                .default_value(default),
             Kind::List(greatest) => option(arg, name, "LIST")
                 .value_delimiter(',')
                 .value_parser(ValueParser::unsigned(0, greatest)),

@@ -88,7 +88,7 @@ impl Halt<'_> {
 impl<'a, R: Host> Run<'a, R> {
     /// Tells the caveat or the failure of a command on `err`, if there is one, and returns the exit status.
     pub fn end<E: Write>(&self, outcome: Result<Option<Caveat>, Halt<'_>>, err: &mut E) -> u8
-        ensures { result ≤ 4 }
+        ensures { result ≤ 5 }
     {
         let mut halt = match outcome {
             Ok(None) => return 0,

@@ -36,6 +36,7 @@ mod hints;
 mod host;
 mod intake;
 mod listing;
+mod loss;
 mod manual;
 mod opening;
 mod progress;
@@ -58,6 +59,7 @@ mod words;
 pub use answering::print_answer;
 pub use host::{Host, Lock};
 pub use listing::{Names, list};
+pub use loss::Budget;
 pub use progress::Telling;
 pub use request::{
     CheckForm, Command, Cut, FileCommand, FileQuery, Folder, FolderCommand, NewFolder, Question,

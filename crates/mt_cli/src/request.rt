@@ -1,4 +1,5 @@
 //! The request that the arguments make.
+use crate::loss::Budget;
 use crate::progress::Telling;
 use mt_record::{Head, records_below};
 use mt_recover::{Pieces, Workers};
@@ -119,6 +120,8 @@ pub struct Resume {
     pub is_json: bool,
     /// Whether there is no log, and one is begun above the best checkpoint.
     pub has_no_logs: bool,
+    /// What may be lost.
+    pub budget: Budget,
 }
 
 /// A new folder for a checkpoint of a store, and what the checkpoint is to be.
@@ -130,6 +133,8 @@ pub struct NewFolder<'a> {
     pub number: u32,
     /// The most bytes of the text of a part that has several entries.
     pub limit: usize,
+    /// What the store may have lost.
+    pub budget: Budget,
 }
 
 /// A question over a folder: what to print.

@@ -35,12 +35,19 @@ impl<'a, R: Host> Run<'a, R> {
         let looks = self.look_at_logs()?;
         let checked = self.check_all(err)?;
         let losses = checked.losses();
+        let loss = checked.loss(self.rt.alloc(), how.budget.most_late)?;
         let version = checked.version();
         let mut parts = checked.parts;
         if let Some(refusal) = checked.unopened {
             return Err(Halt::from(refusal));
         }
         let start = checked.start?;
+        if let Some(loss) = loss {
+            if !how.budget.accepts_loss {
+                return Ok(Some(Caveat::Loss(loss)));
+            }
+            loss.tell(err);
+        }
         if how.is_strict && losses.is_some() {
             return Ok(losses.map(Caveat::Losses));
         }

@@ -20,7 +20,7 @@ pub fn run<R: Host, I: Read + IsTerminal, O: Write + IsTerminal, E: Write + IsTe
     out: &mut O,
     err: &mut E,
 ) -> u8
-    ensures status { result ≤ 4 }
+    ensures status { result ≤ 5 }
 {
     let around = Surroundings {
         at_terminal: err.is_terminal(),
@@ -68,7 +68,7 @@ pub fn run_words<R: Host, I: Read + IsTerminal, O: Write, E: Write + Send>(
     out: &mut O,
     err: &mut E,
 ) -> u8
-    ensures status { result ≤ 4 }
+    ensures status { result ≤ 5 }
 {
     let mut asked = match command(rt, words, around.at_terminal, out, err) {
         Ok(asked) => asked,

@@ -25,7 +25,7 @@ impl<'a, R: Host> Run<'a, R> {
         out: &mut O,
         err: &mut E,
     ) -> Result<u8, Halt<'a>>
-        ensures status { IfOk result (λ status. status ≤ 4) }
+        ensures status { IfOk result (λ status. status ≤ 5) }
     {
         let recovered = self.recover(err)?;
         self.folder.tell_losses(Losses::of(recovered.report()), err);
@@ -62,7 +62,7 @@ impl<'a, 'r, R: Host> Session<'a, 'r, R> {
         out: &mut O,
         err: &mut E,
     ) -> Result<u8, Halt<'static>>
-        ensures { IfOk result (λ status. status ≤ 4) }
+        ensures { IfOk result (λ status. status ≤ 5) }
     {
         let asks = input.is_terminal();
         let mut first = 0;
@@ -116,7 +116,7 @@ impl<'a, 'r, R: Host> Session<'a, 'r, R> {
         out: &mut O,
         err: &mut E,
     ) -> Result<u8, OutputFailed>
-        ensures { IfOk result (λ status. status ≤ 4) }
+        ensures { IfOk result (λ status. status ≤ 5) }
     {
         if matches!(&line, Line::TooLong) {
             return self.end_answer(self.tell_too_long(err), out, err);
@@ -139,7 +139,7 @@ impl<'a, 'r, R: Host> Session<'a, 'r, R> {
         out: &mut O,
         err: &mut E,
     ) -> Result<u8, OutputFailed>
-        ensures { IfOk result (λ status. status ≤ 4) }
+        ensures { IfOk result (λ status. status ≤ 5) }
     {
         let question = match question(self.run.rt.alloc(), words, self.explaining(), out, err) {
             Ok(question) => question,

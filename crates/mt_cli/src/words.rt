@@ -3,12 +3,13 @@ ghost use Rattle.std.specs.Prelude.{◌≤◌, IfErr};
 
 use crate::explaining::{or_tell, tell};
 use crate::grammar::{
-    AT, BELOW, CHART, COLUMNS, COUNT, DRY_RUN, EXISTS, FILE_BYTES, FILES, FOLDER, FROM, HEADER,
-    JSON, KEY, LIMIT, LOG, MOST_TEXT, NO_LOGS, NUMBER, OUT, OUTPUT, PART_LIMIT, PIECES, PREFIX,
-    PROGRESS, RECORD_KEY, SKIP, STATUS, STRICT, STRICT_RESUME, STRICT_SHELL, TEXT, TO, VERBOSE,
-    WIDTH, WORKERS, grammar,
+    ACCEPT_LOSS, AT, BELOW, CHART, COLUMNS, COUNT, DRY_RUN, EXISTS, FILE_BYTES, FILES, FOLDER,
+    FROM, HEADER, JSON, KEY, LIMIT, LOG, MAX_LATE, MOST_TEXT, NO_LOGS, NUMBER, OUT, OUTPUT,
+    PART_LIMIT, PIECES, PREFIX, PROGRESS, RECORD_KEY, SKIP, STATUS, STRICT, STRICT_RESUME,
+    STRICT_SHELL, TEXT, TO, VERBOSE, WIDTH, WORKERS, grammar,
 };
 use crate::listing::Names;
+use crate::loss::Budget;
 use crate::progress::Telling;
 use crate::question::tell_error;
 use crate::request::{
@@ -135,6 +136,7 @@ fn of_folder<'a>(
             is_strict: matches.get_flag(STRICT_RESUME.name),
             is_json: matches.get_flag(JSON.name),
             has_no_logs: matches.get_flag(NO_LOGS.name),
+            budget: budget(matches)?,
         }),
         "checkpoint" => {
             let limit: u64 = found(matches.get_one(PART_LIMIT.name))?;
@@ -142,6 +144,7 @@ fn of_folder<'a>(
                 path: found(matches.get_str(OUT.name))?,
                 number: found(matches.get_one(NUMBER.name))?,
                 limit: limit.min(MOST_TEXT) as usize,
+                budget: budget(matches)?,
             })
         }
         "audit" => FolderCommand::Audit,
@@ -152,6 +155,14 @@ fn of_folder<'a>(
         _ => FolderCommand::Question(question_of(alloc, name, matches)?),
     };
     Ok(Command::OnFolder(folder, command))
+}
+
+/// Returns what may be lost.
+fn budget(matches: &ArgMatches<'_>) -> Result<Budget, Refusal<'static>> {
+    Ok(Budget {
+        most_late: found(matches.get_one(MAX_LATE.name))?,
+        accepts_loss: matches.get_flag(ACCEPT_LOSS.name),
+    })
 }
 
 /// Returns how to print what is in the files of a folder.
