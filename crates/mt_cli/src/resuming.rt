@@ -73,6 +73,9 @@ impl<'a, R: Host> Run<'a, R> {
                 site.sync_file(name.as_str())?;
             }
             site.sync()?;
+            for name in &self.names.logs {
+                site.expect_replaceable(name.as_str())?;
+            }
             self.expect_unchanged(&looks)?;
             delete_parts(&site, &mut parts, chosen)?;
             if let (Some(log), Some(model)) = (&begun, self.names.logs.first()) {

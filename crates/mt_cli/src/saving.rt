@@ -94,6 +94,17 @@ impl<'a, R: Host> Site<'a, R> {
         self.tell("replace", name, self.rename(&path))
     }
 
+    /// Refuses if the file of this name could not be replaced, as by another user than its owner.
+    pub fn expect_replaceable(&self, name: &str) -> Result<(), Halt<'static>> {
+        let path = self.path(name)?;
+        let begun = self.begin(&path, &path);
+        self.give_up(&path);
+        match begun {
+            Ok(_) => Ok(()),
+            Err(error) => self.tell("replace", name, Err(error)),
+        }
+    }
+
     /// Leaves of a part its header alone, so that it is broken.
     pub fn spoil(&self, name: &str) -> Result<(), Halt<'static>> {
         let path = self.path(name)?;
@@ -163,8 +174,24 @@ impl<'a, R: Host> Site<'a, R> {
         self.rename(path)
     }
 
-    /// Writes a file of these bytes, one after the other, under the unfinished name of this path, and syncs it.
+    /// Writes a file of these bytes, one after the other, under the unfinished name of this path, and syncs it. If that fails,
+    /// it leaves none.
     fn prepare(
+        &self,
+        path: &PathBuf,
+        model: &PathBuf,
+        header: &[u8],
+        records: &[u8],
+        marks: &[u8],
+    ) -> io::Result<()> {
+        let written = self.write_unfinished(path, model, header, records, marks);
+        if written.is_err() {
+            self.give_up(path);
+        }
+        written
+    }
+
+    fn write_unfinished(
         &self,
         path: &PathBuf,
         model: &PathBuf,
@@ -232,7 +259,12 @@ pub fn make_folder<R: Host>(rt: &R, path: &str) -> Result<(), Halt<'static>> {
         Ok(()) => sync_path(rt, parent_of(path)),
         Err(error) => Err(error),
     };
-    let advice = "name a new folder, in one that can be written";
+    let advice = match &made {
+        Err(error) if error.kind() == ErrorKind::AlreadyExists => {
+            "delete it if it is of a checkpoint that stopped: then it has no log.mtl, and is no store; else name another one"
+        }
+        _ => "name a new folder, in one that can be written",
+    };
     match made {
         Ok(()) => Ok(()),
         Err(error) => Err(Halt::stuck(rt.alloc(), "make", path, error, advice)),
