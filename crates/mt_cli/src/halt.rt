@@ -12,6 +12,10 @@ use mt_words::{Fault, Memory};
 use std::alloc::{AllocError, Global};
 use std::io::{self, ErrorKind, Write};
 
+/// What to try if more would be lost than a crash loses.
+const ON_LOSS: &str =
+    "put good copies back, or move away what is not of this store; --accept-loss goes on without what is lost";
+
 /// Why a command stopped.
 #[derive(Drop)]
 pub enum Halt<'a> {
@@ -92,7 +96,13 @@ impl<'a, R: Host> Run<'a, R> {
     {
         let mut halt = match outcome {
             Ok(None) => return 0,
-            Ok(Some(caveat)) => return caveat.tell(err),
+            Ok(Some(caveat)) => {
+                let status = caveat.tell(err);
+                if self.folder.is_verbose && matches!(&caveat, Caveat::Loss(_)) {
+                    let _ = writeln!(err, "try: {ON_LOSS}");
+                }
+                return status;
+            }
             Err(halt) => halt,
         };
         if !self.folder.is_verbose {

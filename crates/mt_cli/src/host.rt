@@ -73,7 +73,7 @@ impl Lock for File {
             Err(TryLockError::Error(error)) => Err(error),
             Err(TryLockError::WouldBlock) => Err(io::Error::new(
                 ErrorKind::WouldBlock,
-                "another process uses it",
+                "a server, or another resume or checkpoint, uses it",
             )),
         }
     }

@@ -1,4 +1,5 @@
 //! What a store lost that no crash loses.
+use crate::caveat::plural;
 use crate::checked::{Checked, CheckedLog};
 use crate::fates::{Fate, numbers_of};
 use mt_recover::Start;
@@ -60,7 +61,8 @@ impl Checked<'_> {
             .log_of(cutoff)
             .and_then(|log| self.logs.get(log as usize));
         let name = log.map_or("", |log| log.file.name);
-        lines.push(format!(in alloc; "{late} updates late: {} ends at {cutoff}", Shown(name))?)?;
+        let (s, name) = (plural(late), Shown(name));
+        lines.push(format!(in alloc; "{late} update{s} late: {name} ends at {cutoff}")?)?;
         Ok(())
     }
 

@@ -206,10 +206,14 @@ impl<'a, R: Host> Site<'a, R> {
         file.sync_all()
     }
 
-    /// Gives the unfinished file of this path, which is synced, its name.
+    /// Gives the unfinished file of this path, which is synced, its name. If that fails, it leaves none.
     fn rename(&self, path: &PathBuf) -> io::Result<()> {
         let unfinished = path.with_added_extension(self.rt.alloc(), UNFINISHED)?;
-        fs::rename(self.rt, &unfinished, path)
+        let renamed = fs::rename(self.rt, &unfinished, path);
+        if renamed.is_err() {
+            self.give_up(path);
+        }
+        renamed
     }
 
     /// Deletes the unfinished file of this path. If it stays, it is ignored, as after a crash.
