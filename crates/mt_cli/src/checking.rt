@@ -50,7 +50,7 @@ impl<'a, R: Host> Run<'a, R> {
             return Err(Halt::from(refusal));
         }
         checked.start?;
-        Ok(losses.map(Caveat::Losses))
+        Ok(self.tell_noted(losses.map(Caveat::Losses), err)?)
     }
 
     /// Checks all logs and parts. If there is a cutoff, the logs are read once more, to count what is late. What follows the

@@ -7,6 +7,8 @@ use crate::answering::PRINTED_AT_ONCE;
 use crate::caveat::{Caveat, Losses};
 use crate::halt::Halt;
 use crate::host::{Host, Lock, Run};
+use crate::loss::Loss;
+use crate::noting::NOTES;
 use crate::request::NewFolder;
 use crate::row::{Cell, write_row};
 use crate::saving::{Site, make_folder};
@@ -32,22 +34,25 @@ impl<'a, R: Host> Run<'a, R> {
     ) -> Result<Option<Caveat>, Halt<'a>> {
         let looks = self.look_at_logs()?;
         let recovered = self.recover(err)?;
-        if Losses::of(recovered.report()).is_some() {
+        let loss = if Losses::of(recovered.report()).is_some() {
             // Only a check tells which file shows it.
             let checked = self.check_all(err)?;
-            if let Some(loss) = checked.loss(self.rt.alloc(), new.budget.most_late)? {
-                if !new.budget.accepts_loss {
-                    mem::forget(recovered);
-                    return Ok(Some(Caveat::Loss(loss)));
-                }
-                loss.tell(err);
-            }
+            checked.loss(self.rt.alloc(), new.budget.most_late)?
+        } else {
+            None
+        };
+        if loss.is_some() && !new.budget.accepts_loss {
+            mem::forget(recovered);
+            return Ok(loss.map(Caveat::Loss));
+        }
+        if let Some(loss) = &loss {
+            loss.tell(err);
         }
         let checkpoint = plan_of(self.rt.alloc(), new, &recovered)?;
         if u64::from(checkpoint.parts()) >= self.folder.most_files {
             return Err(Halt::from(PlanFault::Parts));
         }
-        self.write_all(&looks, new, &checkpoint)?;
+        self.write_all(&looks, loss.as_ref(), new, &checkpoint)?;
         write_line(new.number, checkpoint.parts(), recovered.report(), out)?;
         out.flush()?;
         self.folder.tell_losses(Losses::of(recovered.report()), err);
@@ -56,11 +61,12 @@ impl<'a, R: Host> Run<'a, R> {
         Ok(None)
     }
 
-    /// Writes the parts of the checkpoint into the new folder, which is locked meanwhile, and then the log, if the logs are as
-    /// they were in these looks.
+    /// Writes the parts of the checkpoint into the new folder, which is locked meanwhile, notes the loss there, and then writes
+    /// the log, if the logs are as they were in these looks.
     fn write_all(
         &self,
         looks: &[Option<Look>],
+        loss: Option<&Loss>,
         new: &NewFolder<'_>,
         checkpoint: &Checkpoint<'_>,
     ) -> Result<(), Halt<'static>> {
@@ -77,6 +83,9 @@ impl<'a, R: Host> Run<'a, R> {
             let salt = salt.wrapping_add(u64::from(part));
             let written = write_part(&site, checkpoint, salt, part, name.as_str());
             site.tell("write", name.as_str(), written)?;
+        }
+        if let Some(loss) = loss {
+            site.note(loss, NOTES)?;
         }
         // The log counts, so all parts must be there before it.
         site.sync()?;

@@ -8,6 +8,7 @@ use crate::halt::Halt;
 use crate::host::Host;
 use crate::intake::{Intake, LogIntake, Reached, open, unread};
 use crate::listing::Names;
+use crate::noting::note_cut;
 use crate::request::{Cut, FileCommand, FileQuery};
 use crate::saving::{begin_path, finish_path, give_up_path};
 use crate::sealed::{Sealed, SealedPart, is_footer, unopened};
@@ -59,7 +60,8 @@ pub fn answer_file<R: Host, O: Write, E: Write>(
     }
 }
 
-/// Cuts a log into the file of the path `target`, or else prints it.
+/// Cuts a log into the file of the path `target`, or else prints it. If it goes on after damage, what it leaves out is noted
+/// beside that file before it counts.
 fn cut_into<'a, R: Host, O: Write, E: Write>(
     rt: &R,
     path: &'a str,
@@ -74,7 +76,14 @@ fn cut_into<'a, R: Host, O: Write, E: Write>(
         return Ok(None);
     };
     let mut file = begin_path(rt, target, path)?;
-    match cut(rt, path, how, is_verbose, &mut file, err) {
+    let mut told = Vec::new(rt.alloc());
+    let mut done = cut(rt, path, how, is_verbose, &mut file, &mut told);
+    // A write error does not change what is cut.
+    let _ = err.write_all(&told);
+    if done.is_ok() && how.is_skipping {
+        done = note_cut(rt, target, &told);
+    }
+    match done {
         Ok(()) => {
             finish_path(rt, target, file)?;
             Ok(None)

@@ -235,6 +235,9 @@ const OTHERS: &[Subcommand] = subcommands! {
     "checkpoint", [FOLDER, WORKERS, FILES, FILE_BYTES, VERBOSE, PROGRESS, PIECES, OUT, NUMBER, PART_LIMIT, MAX_LATE, ACCEPT_LOSS],
         "Writes the store as a checkpoint and a log into a new folder. The server must be down",
         "Example: mtrecover checkpoint examples/store fresh";
+    "forget", [FOLDER, WORKERS, FILES, FILE_BYTES, VERBOSE, PROGRESS],
+        "Prints what the file LOSS of the folder notes as lost, and deletes it",
+        "Example: mtrecover forget DIR";
     "records", [LOG_OR_PART, VERBOSE, FROM, LIMIT, RECORD_KEY, AT, JSON],
         "Prints the records of a log, or the entries of a part, with their numbers and the bytes where they begin",
         "Example: mtrecover records examples/a.mtl --from 1 --limit 2";

@@ -38,6 +38,7 @@ mod intake;
 mod listing;
 mod loss;
 mod manual;
+mod noting;
 mod opening;
 mod progress;
 mod question;

@@ -19,7 +19,7 @@ pub struct Budget {
 
 /// What a store lost that no crash loses: a line for each file or checkpoint that shows it.
 #[derive(Drop)]
-pub struct Loss(Vec<String>);
+pub struct Loss(pub Vec<String>);
 
 impl Loss {
     /// Prints the lines. A write error is passed over.

@@ -28,6 +28,8 @@ pub enum FolderCommand<'a> {
     Resume(Resume),
     /// Writes the store as a checkpoint into a new folder.
     Checkpoint(NewFolder<'a>),
+    /// Prints and deletes the notes of what was lost.
+    Forget,
 }
 
 impl FolderCommand<'_> {

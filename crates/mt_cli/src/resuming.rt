@@ -42,14 +42,20 @@ impl<'a, R: Host> Run<'a, R> {
             return Err(Halt::from(refusal));
         }
         let start = checked.start?;
-        if let Some(loss) = loss {
-            if !how.budget.accepts_loss {
-                return Ok(Some(Caveat::Loss(loss)));
-            }
+        if loss.is_some() && !how.budget.accepts_loss {
+            return Ok(loss.map(Caveat::Loss));
+        }
+        if let Some(loss) = &loss {
             loss.tell(err);
         }
-        if how.is_strict && losses.is_some() {
-            return Ok(losses.map(Caveat::Losses));
+        if how.is_strict {
+            let noted = self.tell_noted(None, err)?;
+            if losses.is_some() {
+                return Ok(losses.map(Caveat::Losses));
+            }
+            if noted.is_some() {
+                return Ok(noted);
+            }
         }
         let salt = site.salt()?;
         let base = &start.choice.chosen;
@@ -77,6 +83,9 @@ impl<'a, R: Host> Run<'a, R> {
                 site.expect_replaceable(name.as_str())?;
             }
             self.expect_unchanged(&looks)?;
+            if let (Some(loss), Some(model)) = (&loss, self.names.logs.first()) {
+                site.note(loss, model.as_str())?;
+            }
             delete_parts(&site, &mut parts, chosen)?;
             if let (Some(log), Some(model)) = (&begun, self.names.logs.first()) {
                 log.write(&site, model.as_str())?;

@@ -279,7 +279,7 @@ pub fn make_folder<R: Host>(rt: &R, path: &str) -> Result<(), Halt<'static>> {
 const FOR_PATH: &str = "name a file, in a folder that can be written";
 
 /// Returns the folder that a path is in.
-fn site_of<'t, R: Host>(rt: &'t R, path: &'t str) -> Site<'t, R> {
+pub fn site_of<'t, R: Host>(rt: &'t R, path: &'t str) -> Site<'t, R> {
     Site {
         rt,
         folder: parent_of(path),

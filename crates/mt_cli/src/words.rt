@@ -148,6 +148,7 @@ fn of_folder<'a>(
             })
         }
         "audit" => FolderCommand::Audit,
+        "forget" => FolderCommand::Forget,
         "shell" => FolderCommand::Shell(Shell {
             is_strict: matches.get_flag(STRICT_SHELL.name),
             has_status: matches.get_flag(STATUS.name),
