@@ -1,4 +1,5 @@
 pub mod Answers
+pub mod Questions
 pub mod Ranges
 pub mod Rows
 pub mod Written

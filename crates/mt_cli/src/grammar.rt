@@ -281,14 +281,18 @@ pub fn grammar<'a>(alloc: Global) -> Result<Command<'a>, AllocError> {
     Ok(program)
 }
 
-/// Returns the grammar of a line of a shell: the questions, without the arguments of `RECOVERY`. Err: out of memory.
-pub fn questions<'a>(alloc: Global) -> Result<Command<'a>, AllocError> {
+/// Returns the grammar of a line of a shell that begins with this word: the question of this name, or all if none has it,
+/// without the arguments of `RECOVERY`. Err: out of memory.
+pub fn questions<'a>(alloc: Global, first: &str) -> Result<Command<'a>, AllocError> {
     let mut line = Command::new(alloc, PROMPT)
         .no_binary_name(true)
         .subcommand_required(true)
         .bin_name(PROMPT)?;
+    let is_named = QUESTIONS.iter().any(|question| question.name == first);
     for question in QUESTIONS {
-        line = line.subcommand(question.command(alloc, &[])?)?;
+        if question.name == first || !is_named {
+            line = line.subcommand(question.command(alloc, &[])?)?;
+        }
     }
     Ok(line)
 }

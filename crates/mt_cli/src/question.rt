@@ -1,5 +1,6 @@
 //! Reads the questions of a shell.
-ghost use Rattle.std.specs.Prelude.{◌≤◌, IfErr};
+ghost use Rattle.std.specs.Prelude.{◌≤◌, IfErr, IfSome};
+ghost use Rattle.mt_cli.specs.Questions.{AsksForKey};
 
 use crate::explaining::{or_tell, tell};
 use crate::grammar::questions;
@@ -9,7 +10,7 @@ use crate::words::question_of;
 use clap::ArgMatches;
 use clap::error::ErrorKind;
 use mt_recover::{Failure, Refusal};
-use mt_words::Fault;
+use mt_words::{Fault, Key};
 use std::alloc::{AllocError, Global};
 use std::io::{self, BufRead, Read, Write};
 
@@ -32,7 +33,8 @@ pub fn question<O: Write, E: Write>(
 
 /// Parses the words by the grammar of a line.
 fn parse<'a>(alloc: Global, words: &'a [&'a str]) -> Result<ArgMatches<'a>, clap::Error> {
-    questions(alloc)?.try_get_matches_from_mut(words)
+    let first = words.first().copied().unwrap_or("");
+    questions(alloc, first)?.try_get_matches_from_mut(words)
 }
 
 /// Reads the question from the parsed words.
@@ -123,6 +125,18 @@ pub fn next_line<B: BufRead>(input: &mut B, line: &mut Vec<u8>) -> io::Result<Li
     }
     input.skip_until(b'\n')?;
     Ok(Line::TooLong)
+}
+
+/// Returns the key of a line `get KEY`, the question that is asked most, without the grammar, which takes longer to make than
+/// the answer. None: the grammar reads the line, or says what is wrong.
+pub fn lone_key(alloc: Global, line: &[u8]) -> Option<Key>
+    ensures { IfSome result (λ key. AsksForKey line.now key) }
+{
+    let word = line.strip_prefix(b"get ")?;
+    if word.is_empty() {
+        return None;
+    }
+    Key::new(hex::decode(alloc, word).ok()?)
 }
 
 /// Returns the words of a line, which stand between blanks. `''` is an empty one. Err: out of memory.

@@ -1,5 +1,8 @@
 //! Answers the subcommand `shell`: recovers the store of a folder once, and answers the lines of the input.
-ghost use Rattle.std.specs.Prelude.{◌≡◌, ◌≤◌, IfOk};
+ghost use Rattle.std.specs.Prelude.{◌≡◌, ◌≤◌, List, ℕ, IfOk, true, false};
+ghost use Rattle.std.specs.Io.KnownBytes.{Appends, Keeps};
+ghost use Rattle.mt_cli.specs.Answers.{IsTextOf};
+ghost use Rattle.mt_cli.specs.Questions.{AsksForKey};
 
 use crate::answering::{PRINTED_AT_ONCE, print_answer};
 use crate::caveat::{Caveat, Losses};
@@ -8,9 +11,10 @@ use crate::grammar::PROMPT;
 use crate::halt::Halt;
 use crate::host::{Host, Run};
 use crate::listing::Names;
-use crate::question::{LONGEST_LINE, Line, next_line, question, words_of};
-use crate::request::{Question, Shell};
+use crate::question::{LONGEST_LINE, Line, lone_key, next_line, question, words_of};
+use crate::request::{Question, Shell, StoreQuery};
 use mt_recover::{Failure, Recovered, Refusal};
+use mt_text::Form;
 use mt_words::Fault;
 use std::io::{self, BufReader, BufWriter, IsTerminal, Read, Write};
 use std::{mem, str};
@@ -54,7 +58,7 @@ struct Session<'a, 'r, R> {
 }
 
 impl<'a, 'r, R: Host> Session<'a, 'r, R> {
-    /// Answers each line of the input, before it reads the next one, and returns the exit status. It ends early, with
+    /// Answers each line of the input, before it waits for the next one, and returns the exit status. It ends early, with
     /// status 3, if the output fails. At a terminal it asks for each line. Err: read error, or out of memory.
     fn answer_lines<I: Read + IsTerminal, O: Write, E: Write + Send>(
         &self,
@@ -72,6 +76,10 @@ impl<'a, 'r, R: Host> Session<'a, 'r, R> {
             Err(error) => return Err(self.unread(error)),
         };
         for _ in 0..u64::MAX {
+            // The next line may come only after the answers to those before.
+            if !lines.buffer().contains(&b'\n') && self.flush(out, err).is_err() {
+                return Ok(3);
+            }
             if asks {
                 // A write error is passed over.
                 let _ = write!(err, "{PROMPT} ");
@@ -89,6 +97,9 @@ impl<'a, 'r, R: Host> Session<'a, 'r, R> {
             if first == 0 && self.how.is_strict {
                 first = status;
             }
+        }
+        if self.flush(out, err).is_err() {
+            return Ok(3);
         }
         if asks {
             // What prints next begins a line of its own.
@@ -118,7 +129,13 @@ impl<'a, 'r, R: Host> Session<'a, 'r, R> {
     ) -> Result<u8, OutputFailed>
         ensures { IfOk result (λ status. status ≤ 5) }
     {
-        if matches!(&line, Line::TooLong) {
+        let is_whole = matches!(&line, Line::Whole);
+        if is_whole && self.answer_get(text, out, err)? {
+            return self.end_answer(0, out, err);
+        }
+        // What is told on `err` follows the answers before.
+        self.flush(out, err)?;
+        if !is_whole {
             return self.end_answer(self.tell_too_long(err), out, err);
         }
         let Ok(text) = str::from_utf8(text) else {
@@ -130,6 +147,49 @@ impl<'a, 'r, R: Host> Session<'a, 'r, R> {
             Err(_) => self.tell(&Refusal::from(Fault::Memory), err),
         };
         self.end_answer(status, out, err)
+    }
+
+    /// Prints the pair of a key, or that it is absent, if that is all that the line asks for, and returns whether it is. Does
+    /// not flush the output.
+    fn answer_get<O: Write, E: Write>(
+        &self,
+        line: &[u8],
+        out: &mut O,
+        err: &mut E,
+    ) -> Result<bool, OutputFailed>
+        ensures asked { IfOk result (λ is_asked. is_asked ≡ true
+            → (key : List ℕ) × AsksForKey line.now key
+            × ((text : List ℕ) × IsTextOf key self.now.recovered.now.store text
+            × Appends (O.contents out.old) (O.contents out.new) text)) }
+        ensures other { IfOk result (λ is_asked. is_asked ≡ false → Keeps (O.contents out.old) (O.contents out.new)) }
+    {
+        let Some(key) = lone_key(self.run.rt.alloc(), line) else {
+            return Ok(false);
+        };
+        let form = Form {
+            is_json: false,
+            is_text: false,
+        };
+        match print_answer(self.recovered, &StoreQuery::Get(key, form), out) {
+            Ok(_) => Ok(true),
+            Err(refusal) => Err(self.fail(&refusal, err)),
+        }
+    }
+
+    /// Flushes the output.
+    fn flush<O: Write, E: Write>(&self, out: &mut O, err: &mut E) -> Result<(), OutputFailed>
+        ensures { Keeps (O.contents out.old) (O.contents out.new) }
+    {
+        match out.flush() {
+            Ok(()) => Ok(()),
+            Err(error) => Err(self.fail(&Refusal::from(error), err)),
+        }
+    }
+
+    /// Tells that the output failed.
+    fn fail<E: Write>(&self, refusal: &Refusal<'_>, err: &mut E) -> OutputFailed {
+        self.tell(refusal, err);
+        OutputFailed
     }
 
     /// Answers the question of these words and returns its status.
@@ -188,16 +248,9 @@ impl<'a, 'r, R: Host> Session<'a, 'r, R> {
         if !self.how.has_status {
             return Ok(status);
         }
-        let written = match writeln!(out, "status={status}") {
-            Ok(()) => out.flush(),
-            Err(error) => Err(error),
-        };
-        match written {
+        match writeln!(out, "status={status}") {
             Ok(()) => Ok(status),
-            Err(error) => {
-                let _ = self.tell(&Refusal::from(error), err);
-                Err(OutputFailed)
-            }
+            Err(error) => Err(self.fail(&Refusal::from(error), err)),
         }
     }
 
