@@ -1,5 +1,5 @@
 /* Loaded into a program, fails one of its calls, and says so on standard error. FAIL is the kind of call: growth (malloc,
-   realloc), thread, open, list, stat, read, write, sync, rename, delete, make (mkdir), mode (fchmod) or owner (chown). AT is
+   realloc, mmap), thread, open, list, stat, read, write, sync, rename, delete, make (mkdir), mode (fchmod) or owner (chown). AT is
    its number among the program's calls of that kind, from 1. With OF, only reads or writes of the file OF count, and those after
    it fail too. WITH is the errno, or 0 for a read or write of one byte. The kind change fails no read: before it, the file TO
    gets the bytes of the file FROM in place. */
@@ -12,6 +12,7 @@
 #include <stdatomic.h>
 #include <stdlib.h>
 #include <string.h>
+#include <sys/mman.h>
 #include <sys/sendfile.h>
 #include <sys/stat.h>
 #include <sys/syscall.h>
@@ -53,6 +54,12 @@ void *malloc(size_t size)
 void *realloc(void *old, size_t size)
 {
     return fails("growth") ? NULL : NEXT(void *(*)(void *, size_t), "realloc")(old, size);
+}
+
+void *mmap(void *at, size_t size, int prot, int flags, int file, off_t from)
+{
+    typedef void *(*map)(void *, size_t, int, int, int, off_t);
+    return fails("growth") ? MAP_FAILED : NEXT(map, "mmap")(at, size, prot, flags, file, from);
 }
 
 int pthread_create(pthread_t *thread, const pthread_attr_t *attr, void *(*start)(void *), void *arg)

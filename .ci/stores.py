@@ -14,7 +14,7 @@ from counting import TOP
 from formats import ERASE, GREATEST, MARK, PUT, REMOVE, Update
 
 TIMES = int(sys.argv[1]) if len(sys.argv) > 1 else 300
-MTRECOVER = sys.argv[2] if len(sys.argv) > 2 else TOP / "crates/mtrecover/out/mtrecover"
+MTRECOVER = sys.argv[2] if len(sys.argv) > 2 else TOP / "out/mtrecover"
 KEYS = [b"", b"a", b"b", b"aaaaaaaa", b"aaaaaaaab", b"aaaaaaaaaaaaaaaac"]
 
 
