@@ -135,9 +135,17 @@ fn take_awaited(alloc: Global, lending: &Loan, worker: &mut Place) -> Option<Bor
     let awaited = worker.take_if(
         alloc,
         |held| matches!(held, Held::Borrower(back) if lending.awaits(back)),
-    );
-    match awaited {
-        Some(Held::Borrower(back)) => Some(back),
+    )?;
+    borrower_of(awaited)
+}
+
+/// Returns the log that was handed out, if that is what there is.
+fn borrower_of(taken: Held) -> Option<Borrower>
+    ensures some { IfSome result (λ back. taken ≡ held.Borrower back) }
+    ensures none { IsNone result → (back : BorrowerView) → taken ≡ held.Borrower back → ⊥ }
+{
+    match taken {
+        Held::Borrower(back) => Some(back),
         _ => None,
     }
 }
