@@ -126,6 +126,36 @@ impl<'a> Checked<'a> {
         true
     }
 
+    /// Returns the numbers of the files that end at the cutoff, as do the logs that they belong to, if updates of others are late
+    /// for that: logs that have not ended go on beyond it. Err: out of memory.
+    pub fn early(&self, alloc: Global) -> Result<Vec<usize>, AllocError> {
+        let mut early = Vec::new(alloc);
+        let Ok(start) = &self.start else {
+            return Ok(early);
+        };
+        let cutoff = start.window.cutoff;
+        if self.late() == 0 || self.last_below_end() <= cutoff {
+            return Ok(early);
+        }
+        for (number, log) in self.logs.iter().enumerate() {
+            if matches!(log.front(), Some(front) if self.ends_log(front, cutoff)) {
+                early.push(number)?;
+            }
+        }
+        Ok(early)
+    }
+
+    /// Returns the greatest timestamp of the logs that have not ended.
+    pub fn last_below_end(&self) -> u64 {
+        let mut last = 0;
+        for front in self.logs.iter().filter_map(CheckedLog::front) {
+            if front.last() < u64::MAX {
+                last = front.last().max(last);
+            }
+        }
+        last
+    }
+
     /// Returns the greatest timestamp of the logs.
     fn last(&self) -> u64 {
         let mut last = 0;

@@ -7,11 +7,11 @@ use crate::request::Cut;
 use crate::sealed::{Salvaged, Sealed, unopened};
 use crate::stop::Stop;
 use mt_record::{
-    Head, KeptRecords, LogFeed, Segment, Stretch, encode_head, header_at, is_sealed_part,
-    part_header_at, salvage_records,
+    Head, KeptRecords, LogFeed, Segment, Stretch, encode_head, encode_record, header_at,
+    is_sealed_part, part_header_at, salvage_records,
 };
 use mt_recover::Refusal;
-use mt_words::Fault;
+use mt_words::{Fault, Record};
 use std::alloc::Global;
 use std::io::{self, ErrorKind, Read, Write};
 
@@ -84,7 +84,7 @@ struct Cutter<'x, O> {
     head: Head,
     how: &'x Cut,
     out: &'x mut O,
-    /// If the log is a segment, it reads what is printed.
+    /// If the log is a segment, or is to end with a mark, it reads what is printed.
     feed: Option<LogFeed<KeptRecords>>,
     /// Whether the last bytes of the log so far are not printed.
     is_cut: bool,
@@ -100,14 +100,13 @@ impl<'x, O: Write> Cutter<'x, O> {
     ) -> Result<Cutter<'x, O>, Refusal<'static>> {
         let header = encode_head(alloc, head)?;
         out.write_all(&header)?;
-        let feed = match head.segment {
-            Some(_) => {
-                let mut feed = LogFeed::keeping(alloc);
-                // The feed keeps a fault.
-                let _ = feed.feed(&header);
-                Some(feed)
-            }
-            None => None,
+        let feed = if head.segment.is_some() || how.end.is_some() {
+            let mut feed = LogFeed::keeping(alloc);
+            // The feed keeps a fault.
+            let _ = feed.feed(&header);
+            Some(feed)
+        } else {
+            None
         };
         Ok(Cutter {
             alloc,
@@ -151,6 +150,7 @@ impl<'x, O: Write> Cutter<'x, O> {
                 }
             }
         }
+        cutter.mark(err)?;
         if let Some(end) = cutter.end()? {
             end.tell(err);
         }
@@ -186,9 +186,37 @@ impl<'x, O: Write> Cutter<'x, O> {
                 }
             }
         }
+        cutter.mark(err)?;
         if let Some(end) = cutter.end()? {
             end.tell(err);
         }
+        Ok(())
+    }
+
+    /// Ends the log with the mark that is wanted, if one is and it ends before that, and tells on `err` what may be lost.
+    fn mark<E: Write>(&mut self, err: &mut E) -> Result<(), Refusal<'static>> {
+        let Some(end) = self.how.end else {
+            return Ok(());
+        };
+        let last = match &self.feed {
+            Some(feed) => last_in(feed)?,
+            None => end,
+        };
+        if end <= last {
+            return Ok(());
+        }
+        let mut record = Vec::new(self.alloc);
+        encode_record(&Record::mark(end), &mut record)?;
+        if let Some(feed) = &mut self.feed {
+            let _ = feed.feed(&record);
+        }
+        self.out.write_all(&record)?;
+        self.out.flush()?;
+        // A write error is passed over.
+        let _ = writeln!(
+            err,
+            "mtrecover: a mark now ends it at {end}: if it had updates from {last} up to that, they are lost"
+        );
         Ok(())
     }
 

@@ -60,8 +60,8 @@ pub fn answer_file<R: Host, O: Write, E: Write>(
     }
 }
 
-/// Cuts a log into the file of the path `target`, or else prints it. If it goes on after damage, what it leaves out is noted
-/// beside that file before it counts.
+/// Cuts a log into the file of the path `target`, or else prints it. If it goes on after damage or ends with a mark, what it
+/// leaves out is noted beside that file before it counts.
 fn cut_into<'a, R: Host, O: Write, E: Write>(
     rt: &R,
     path: &'a str,
@@ -80,7 +80,7 @@ fn cut_into<'a, R: Host, O: Write, E: Write>(
     let mut done = cut(rt, path, how, is_verbose, &mut file, &mut told);
     // A write error does not change what is cut.
     let _ = err.write_all(&told);
-    if done.is_ok() && how.is_skipping {
+    if done.is_ok() && (how.is_skipping || how.end.is_some()) {
         done = note_cut(rt, target, &told);
     }
     match done {

@@ -187,6 +187,10 @@ pub const HEADER: Argument = argument! { "header", Value("HEADER"),
 pub const BELOW: Argument = argument! { "below", From("TIMESTAMP", 0, u64::MAX),
     "Print only records with a timestamp below this one, for example the cutoff" };
 
+pub const END: Argument = argument! { "end", From("TIMESTAMP", 0, u64::MAX),
+    "If the log ends before this timestamp, end it with a mark of it, as a lost tail may have done: then it does not hold \
+    the cutoff back, and its updates up to there are lost" };
+
 /// The arguments that say which store is recovered, and how.
 const RECOVERY: &[Argument] = &[
     FOLDER, WORKERS, FILES, FILE_BYTES, VERBOSE, PROGRESS, PIECES,
@@ -241,7 +245,7 @@ const OTHERS: &[Subcommand] = subcommands! {
     "records", [LOG_OR_PART, VERBOSE, FROM, LIMIT, RECORD_KEY, AT, JSON],
         "Prints the records of a log, or the entries of a part, with their numbers and the bytes where they begin",
         "Example: mtrecover records examples/a.mtl --from 1 --limit 2";
-    "cut", [LOG, VERBOSE, SKIP, HEADER, BELOW, OUTPUT],
+    "cut", [LOG, VERBOSE, SKIP, HEADER, BELOW, END, OUTPUT],
         "Prints a log of the complete records of a log, up to its fault or torn tail, or with --skip beyond it",
         "To go on with a damaged log (docs/RUNBOOK.md has what that loses):\n\
         \x20 test -e BACKUP || { cp -a DIR/. BACKUP.new && sync && mv BACKUP.new BACKUP; }\n\

@@ -174,6 +174,8 @@ pub struct Cut {
     pub header: Option<Head>,
     /// The timestamp below which records are kept. None: all are.
     pub below: Option<u64>,
+    /// The timestamp of a mark that ends the log, if it ends before that. None: it gets none.
+    pub end: Option<u64>,
 }
 
 impl Cut {

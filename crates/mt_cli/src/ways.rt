@@ -1,4 +1,4 @@
-//! What recovery would find once damaged logs are cut.
+//! What recovery would find once damaged logs are cut, or a log that holds the cutoff back ends with a mark.
 use crate::checked::Checked;
 use crate::cutting::cut;
 use crate::halt::Halt;
@@ -12,8 +12,29 @@ use mt_text::Value;
 use mt_words::Fault;
 use std::io::{self, Write};
 
-/// The ways to cut damaged logs, and whether they go on after the damage.
-const WAYS: [(&str, bool); 2] = [("cut", false), ("skip", true)];
+/// A way to cut logs.
+#[derive(Clone, Copy)]
+struct Way {
+    name: &'static str,
+    /// Whether they go on after damage.
+    is_skipping: bool,
+    /// The timestamp of the mark that ends them. None: they get none.
+    end: Option<u64>,
+}
+
+/// The ways to cut damaged logs.
+const WAYS: [Way; 2] = [
+    Way {
+        name: "cut",
+        is_skipping: false,
+        end: None,
+    },
+    Way {
+        name: "skip",
+        is_skipping: true,
+        end: None,
+    },
+];
 
 /// What recovery would find.
 #[derive(Clone, Copy)]
@@ -24,9 +45,10 @@ struct Outlook {
 }
 
 impl<'a, R: Host> Run<'a, R> {
-    /// Prints a line for each way to cut all logs in which a record is damaged, or seems torn though records follow it: what
-    /// recovery would find then, or the fault that it would name, which ends the line, since it has blanks. Reads the files
-    /// again for each. Prints nothing if there is no such log, or one of the files cannot be read again.
+    /// Prints a line for each way to cut all logs in which a record is damaged, or seems torn though records follow it, and if
+    /// updates are late, for the way to end the logs before them with a mark: what recovery would find then, or the fault that
+    /// it would name, which ends the line, since it has blanks. Reads the files again for each. Prints nothing if there is no
+    /// such log, or one of the files cannot be read again.
     pub fn write_ways<W: Write>(
         &self,
         checked: &Checked<'_>,
@@ -39,19 +61,41 @@ impl<'a, R: Host> Run<'a, R> {
                 damaged.push(number)?;
             }
         }
-        if damaged.is_empty() || checked.memory().is_none() {
+        if checked.memory().is_none() {
             return Ok(());
         }
-        for (name, is_skipping) in &WAYS {
-            let outlook = self.look_ahead(&damaged, *is_skipping);
-            write_outlook(name, &damaged, &outlook, is_json, out)?;
+        if !damaged.is_empty() {
+            for way in &WAYS {
+                self.write_way(way, &damaged, is_json, out)?;
+            }
         }
-        Ok(())
+        let early = checked.early(self.rt.alloc())?;
+        if early.is_empty() {
+            return Ok(());
+        }
+        let way = Way {
+            name: "end",
+            is_skipping: true,
+            end: Some(checked.last_below_end()),
+        };
+        self.write_way(&way, &early, is_json, out)
     }
 
-    /// Returns what recovery would find if these damaged logs were cut, or the fault that it would name.
-    fn look_ahead(&self, damaged: &[usize], is_skipping: bool) -> Result<Outlook, Refusal<'a>> {
-        let cuts = self.cut_all(damaged, is_skipping)?;
+    /// Prints the line of a way to cut these logs.
+    fn write_way<W: Write>(
+        &self,
+        way: &Way,
+        logs: &[usize],
+        is_json: bool,
+        out: &mut W,
+    ) -> Result<(), Refusal<'static>> {
+        let outlook = self.look_ahead(logs, way);
+        write_outlook(way, logs, &outlook, is_json, out)
+    }
+
+    /// Returns what recovery would find if these logs were cut, or the fault that it would name.
+    fn look_ahead(&self, logs: &[usize], way: &Way) -> Result<Outlook, Refusal<'a>> {
+        let cuts = self.cut_all(logs, way)?;
         let mut rack = self.rack()?;
         let mut nowhere = io::sink();
         let meter = Meter::new(self.rt, Telling::Never, 0, 0, &mut nowhere);
@@ -88,16 +132,12 @@ impl<'a, R: Host> Run<'a, R> {
         Ok(count)
     }
 
-    /// Returns for each log, if it is damaged, the log that `cut` makes of it.
-    fn cut_all(
-        &self,
-        damaged: &[usize],
-        is_skipping: bool,
-    ) -> Result<Vec<Option<Vec<u8>>>, Refusal<'static>> {
+    /// Returns for each log, if it is one of these, the log that `cut` makes of it.
+    fn cut_all(&self, logs: &[usize], way: &Way) -> Result<Vec<Option<Vec<u8>>>, Refusal<'static>> {
         let mut cuts = Vec::with_capacity(self.rt.alloc(), self.names.logs.len())?;
         for (log, name) in self.names.logs.iter().enumerate() {
-            let bytes = if damaged.contains(&log) {
-                Some(self.cut_one(log, name.as_str(), is_skipping)?)
+            let bytes = if logs.contains(&log) {
+                Some(self.cut_one(log, name.as_str(), way)?)
             } else {
                 None
             };
@@ -107,17 +147,13 @@ impl<'a, R: Host> Run<'a, R> {
     }
 
     /// Returns the log that `cut` makes of the log of this number and name. Err: it cannot be read again, or out of memory.
-    fn cut_one(
-        &self,
-        log: usize,
-        name: &str,
-        is_skipping: bool,
-    ) -> Result<Vec<u8>, Refusal<'static>> {
+    fn cut_one(&self, log: usize, name: &str, way: &Way) -> Result<Vec<u8>, Refusal<'static>> {
         let path = format!(in self.rt.alloc(); "{}/{name}", self.folder.path)?;
         let how = Cut {
-            is_skipping,
+            is_skipping: way.is_skipping,
             header: None,
             below: None,
+            end: way.end,
         };
         let mut bytes = Vec::new(self.rt.alloc());
         match cut(
@@ -142,20 +178,22 @@ impl<'a, R: Host> Run<'a, R> {
     }
 }
 
-/// Prints the line of a way to cut these damaged logs. Err: write error, or out of memory.
+/// Prints the line of a way to cut these logs. Err: write error, or out of memory.
 fn write_outlook<'x, W: Write>(
-    name: &'x str,
-    damaged: &'x [usize],
+    way: &Way,
+    logs: &'x [usize],
     outlook: &'x Result<Outlook, Refusal<'x>>,
     is_json: bool,
     out: &mut W,
 ) -> Result<(), Refusal<'static>> {
-    let (name, logs) = (Cell::Word(name), Cell::Value(Value::Positions(damaged)));
+    let (name, logs) = (Cell::Word(way.name), Cell::Value(Value::Positions(logs)));
+    let end = Cell::Number(way.end);
     match outlook {
         Ok(outlook) => {
             let row = [
                 ("way", name),
                 ("logs", logs),
+                ("end", end),
                 ("cutoff", Cell::Number(Some(outlook.cutoff))),
                 ("late", Cell::Value(Value::Number(outlook.late))),
                 ("survivors", Cell::Value(Value::Number(outlook.survivors))),
@@ -168,6 +206,7 @@ fn write_outlook<'x, W: Write>(
                 let row = [
                     ("way", name),
                     ("logs", logs),
+                    ("end", end),
                     ("fault", Cell::Failure(failure)),
                 ];
                 Ok(write_row(&row, is_json, out)?)

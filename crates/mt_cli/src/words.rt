@@ -3,7 +3,7 @@ ghost use Rattle.std.specs.Prelude.{◌≤◌, IfErr};
 
 use crate::explaining::{or_tell, tell};
 use crate::grammar::{
-    ACCEPT_LOSS, AT, BELOW, CHART, COLUMNS, COUNT, DRY_RUN, EXISTS, FILE_BYTES, FILES, FOLDER,
+    ACCEPT_LOSS, AT, BELOW, CHART, COLUMNS, COUNT, DRY_RUN, END, EXISTS, FILE_BYTES, FILES, FOLDER,
     FROM, HEADER, JSON, KEY, LIMIT, LOG, MAX_LATE, MOST_TEXT, NO_LOGS, NUMBER, OUT, OUTPUT,
     PART_LIMIT, PIECES, PREFIX, PROGRESS, RECORD_KEY, SKIP, STATUS, STRICT, STRICT_RESUME,
     STRICT_SHELL, TEXT, TO, VERBOSE, WIDTH, WORKERS, grammar,
@@ -199,6 +199,7 @@ fn cut(matches: &ArgMatches<'_>) -> Cut {
         is_skipping: matches.get_flag(SKIP.name) || header.is_some(),
         header,
         below: matches.get_one(BELOW.name),
+        end: matches.get_one(END.name),
     }
 }
 
