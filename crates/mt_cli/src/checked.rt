@@ -1,12 +1,13 @@
 //! What a check finds in the files of a folder, as lines.
 use crate::beginning::version_of;
 use crate::caveat::Losses;
-use crate::ending::Ending;
+use crate::ending::{Again, Ending};
 use crate::fates::{Fate, PartState, numbers_of};
 use crate::row::{Cell, Field, write_row};
 use crate::sealed::PART_HEADER;
 use mt_record::{LogFront, Rest, Segment};
 use mt_recover::{LogCheck, Refusal, Start};
+use mt_text::Shown;
 use mt_words::Fault;
 use std::alloc::{AllocError, Global};
 use std::io::{self, Write};
@@ -52,6 +53,8 @@ pub struct CheckedLog<'a> {
 pub struct CheckedPart<'a> {
     pub file: CheckedFile<'a>,
     pub state: PartState,
+    /// Where its entries go on after damage, if it is broken and they do, and its file could be read again.
+    pub again: Option<Again>,
 }
 
 /// The bytes of memory that recovery takes for a byte of ordinary logs and parts, about.
@@ -189,11 +192,23 @@ impl<'a> Checked<'a> {
         bytes.checked_mul(MEMORY_A_BYTE)
     }
 
-    /// Prints what may have happened to each damaged log. A write error is passed over.
+    /// Prints what may have happened to each damaged log, and which broken parts may close a gap. A write error is passed over.
     pub fn tell_hints<E: Write>(&self, err: &mut E) {
         for log in &self.logs {
             if let Some(ending) = &log.ending {
                 ending.tell_hints(!log.is_torn(), log.file.name, err);
+            }
+        }
+        if !matches!(self.start, Err(Fault::Gap { .. })) {
+            return;
+        }
+        for part in &self.parts {
+            if let PartState::Broken { checkpoint, .. } = part.state {
+                let _ = writeln!(
+                    err,
+                    "hint: {}: it is broken: cut --skip saves its entries, and then checkpoint {checkpoint} may close the gap",
+                    Shown(part.file.name)
+                );
             }
         }
     }
@@ -361,7 +376,11 @@ impl CheckedPart<'_> {
     }
 
     /// Returns its line. The reason ends it, since it has blanks.
-    fn fields(&self, number: usize) -> [Field<'_>; 11] {
+    fn fields(&self, number: usize) -> [Field<'_>; 13] {
+        let (next, after) = match self.again {
+            Some(again) => (Some(again.at as u64), Some(again.records as u64)),
+            None => (None, None),
+        };
         let [checkpoint, place, parts, begin, end, entries] = match self.state {
             PartState::Whole(part) => {
                 let [place, parts] = [u64::from(part.place), u64::from(part.parts)];
@@ -396,6 +415,8 @@ impl CheckedPart<'_> {
             ("begin", Cell::Number(begin)),
             ("end", Cell::Number(end)),
             ("entries", Cell::Number(entries)),
+            ("next", Cell::Number(next)),
+            ("after", Cell::Number(after)),
             ("reason", Cell::Reason(self.file.reason.as_ref())),
         ]
     }

@@ -2,13 +2,14 @@
 use crate::answering::PRINTED_AT_ONCE;
 use crate::caveat::Caveat;
 use crate::checked::{Checked, CheckedFile, CheckedLog, CheckedPart};
-use crate::ending::Ending;
+use crate::ending::{Again, Ending};
 use crate::fates::PartState;
 use crate::halt::Halt;
 use crate::host::{Host, Run};
 use crate::intake::{Intake, LogIntake, unread};
 use crate::progress::{Meter, count_all};
 use crate::request::CheckForm;
+use crate::salvaging::PartPieces;
 use crate::sealed::Sealed;
 use mt_record::{Head, Rest, encode_head};
 use mt_recover::{
@@ -68,7 +69,8 @@ impl<'a, R: Host> Run<'a, R> {
         for (name, scan) in self.names.parts.iter().zip(&scans) {
             let state = PartState::of(scan);
             let file = self.checked_file(name.as_str(), matches!(state, PartState::Unread));
-            parts.push(CheckedPart { file, state })?;
+            let again = self.again_in(name.as_str(), state)?;
+            parts.push(CheckedPart { file, state, again })?;
         }
         let mut start = fronts_of(alloc, Vec::from_slice(alloc, &checks)?).and_then(
             |fronts| start_of(alloc, &fronts, scans),
@@ -170,6 +172,23 @@ impl<'a, R: Host> Run<'a, R> {
                 },
             ) => Err(Memory),
             Err(_) => Ok(None),
+        }
+    }
+
+    /// Returns where the entries of a part go on after damage, if it is broken. None: nowhere, or it cannot be read again.
+    fn again_in(&self, name: &str, state: PartState) -> Result<Option<Again>, Memory> {
+        if !matches!(state, PartState::Broken { .. }) {
+            return Ok(None);
+        }
+        let Some(file) = self.read_again(name, u64::MAX)? else {
+            return Ok(None);
+        };
+        let Ok(bytes) = file.into_all() else {
+            return Ok(None);
+        };
+        match PartPieces::open(self.rt.alloc(), bytes)? {
+            Some(part) => Ok(part.salvage(self.rt.alloc())?.again()),
+            None => Ok(None),
         }
     }
 

@@ -4,6 +4,7 @@ use crate::halt::Halt;
 use crate::host::Host;
 use crate::intake::{LogIntake, Reached, open, unread};
 use crate::request::Cut;
+use crate::salvaging::cut_part;
 use crate::sealed::{Salvaged, Sealed, unopened};
 use crate::stop::Stop;
 use mt_record::{
@@ -16,7 +17,8 @@ use std::alloc::Global;
 use std::io::{self, ErrorKind, Read, Write};
 
 /// Prints a log of complete records of the log, byte for byte, as it reads them, and tells on `err` what it leaves out. It
-/// holds only what follows the first fault or torn tail. Of a log of format 4 it holds all, and prints its text, a segment.
+/// holds only what follows the first fault or torn tail. Of a log of format 4 it holds all, and prints its text, a segment. Of a
+/// part it prints, if it is to skip damage, the part of its entries.
 pub fn cut<'a, R: Host, O: Write, E: Write>(
     rt: &R,
     path: &'a str,
@@ -33,6 +35,9 @@ pub fn cut<'a, R: Host, O: Write, E: Write>(
         let log = Sealed::open(rt.alloc(), file.into_all().map_err(unread)?).map_err(unopened)?;
         let cutter = Cutter::new(rt.alloc(), log.front.head, how, out)?;
         return Ok(cutter.cut_sealed(&log, path, is_verbose, err)?);
+    }
+    if how.is_skipping && how.header.is_none() && has_part_header(&file.held) {
+        return cut_part(rt.alloc(), file.into_all().map_err(unread)?, how, out, err);
     }
     let (head, first) = match how.header {
         Some(head) => (head, 0),
@@ -53,7 +58,7 @@ fn has_part_header(bytes: &[u8]) -> bool {
     part_header_at(bytes).is_some() || is_sealed_part(bytes)
 }
 
-/// Returns that a part is not cut.
+/// Returns that a part is not cut at its damage.
 fn is_part(alloc: Global) -> Halt<'static> {
     let reason = io::Error::new(ErrorKind::Unsupported, "it begins with a part's header");
     Halt::stuck(
@@ -61,7 +66,7 @@ fn is_part(alloc: Global) -> Halt<'static> {
         "cut",
         "a part, which records prints",
         reason,
-        "print it by records",
+        "print it by records, or save its entries by cut --skip",
     )
 }
 

@@ -74,8 +74,6 @@ pub const FOLDER: Argument =
 pub const OUT: Argument =
     argument! { "OUT", Word, "The folder to make for the checkpoint; it must not be there" };
 
-pub const LOG: Argument = argument! { "FILE", Word, "The log (.mtl)" };
-
 pub const LOG_OR_PART: Argument = argument! { "FILE", Word, "The log (.mtl) or the part (.mtc)" };
 
 pub const KEY: Argument =
@@ -189,7 +187,7 @@ pub const BELOW: Argument = argument! { "below", From("TIMESTAMP", 0, u64::MAX),
 
 pub const END: Argument = argument! { "end", From("TIMESTAMP", 0, u64::MAX),
     "If the log ends before this timestamp, end it with a mark of it, as a lost tail may have done: then it does not hold \
-    the cutoff back, and its updates up to there are lost" };
+    the cutoff back, and its updates up to there are lost. Of a part: where its checkpoint ends, in place of its footer" };
 
 /// The arguments that say which store is recovered, and how.
 const RECOVERY: &[Argument] = &[
@@ -245,8 +243,8 @@ const OTHERS: &[Subcommand] = subcommands! {
     "records", [LOG_OR_PART, VERBOSE, FROM, LIMIT, RECORD_KEY, AT, JSON],
         "Prints the records of a log, or the entries of a part, with their numbers and the bytes where they begin",
         "Example: mtrecover records examples/a.mtl --from 1 --limit 2";
-    "cut", [LOG, VERBOSE, SKIP, HEADER, BELOW, END, OUTPUT],
-        "Prints a log of the complete records of a log, up to its fault or torn tail, or with --skip beyond it",
+    "cut", [LOG_OR_PART, VERBOSE, SKIP, HEADER, BELOW, END, OUTPUT],
+        "Prints a log of the complete records of a log, up to its fault or torn tail, or with --skip beyond it; with --skip also a part of the complete entries of a part",
         "To go on with a damaged log (docs/RUNBOOK.md has what that loses):\n\
         \x20 test -e BACKUP || { cp -a DIR/. BACKUP.new && sync && mv BACKUP.new BACKUP; }\n\
         \x20 mtrecover cut BACKUP/w0.mtl --skip -o DIR/w0.mtl\n\

@@ -47,6 +47,7 @@ mod request;
 mod resuming;
 mod row;
 mod running;
+mod salvaging;
 mod saving;
 mod sealed;
 mod shell;

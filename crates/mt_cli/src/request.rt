@@ -165,16 +165,16 @@ pub enum FileQuery<'a> {
     Cut(Cut, Option<&'a str>),
 }
 
-/// How to cut a log.
+/// How to cut a log, or to salvage a part.
 #[derive(Clone, Copy)]
 pub struct Cut {
-    /// Whether records go on after damage. If not, they end at it.
+    /// Whether records or entries go on after damage. If not, they end at it.
     pub is_skipping: bool,
     /// A header in place of the log's own, which is lost.
     pub header: Option<Head>,
     /// The timestamp below which records are kept. None: all are.
     pub below: Option<u64>,
-    /// The timestamp of a mark that ends the log, if it ends before that. None: it gets none.
+    /// The timestamp of a mark that ends the log, or where the checkpoint of the part ends.
     pub end: Option<u64>,
 }
 

@@ -20,7 +20,7 @@ const HEADER: usize = 44;
 const TEXT_HEADER: usize = 20;
 
 /// The bytes of a block before its body.
-const BEFORE_BODY: usize = 12;
+pub const BEFORE_BODY: usize = 12;
 
 /// What stands in blocks that follow one another.
 #[derive(Drop)]
@@ -55,6 +55,22 @@ impl Piece {
                 .saturating_add(body.len());
         }
         Ok(piece)
+    }
+
+    /// Returns this text, which ends a file and begins at this byte of it, as if it stood in one block. Err: out of memory.
+    pub fn of_rest(alloc: Global, text: Vec<u8>, at: usize) -> Result<Piece, Memory> {
+        let mut blocks = Vec::new(alloc);
+        blocks.push(BlockAt {
+            file: at.saturating_sub(BEFORE_BODY),
+            text: 0,
+        })?;
+        let end = at.saturating_add(text.len());
+        Ok(Piece { text, blocks, end })
+    }
+
+    /// Returns the byte of the file where its blocks end.
+    pub fn end(&self) -> usize {
+        self.end
     }
 
     /// Returns the byte of the file where this byte of the text stands, or where the blocks end, if it has no such byte.
@@ -178,24 +194,7 @@ impl Sealed {
 
     /// Returns what stands in the whole blocks behind the first damage, wherever they are.
     pub fn behind(&self, alloc: Global) -> Result<Vec<Piece>, Memory> {
-        let mut pieces = Vec::new(alloc);
-        let mut at = self.first.end;
-        for _ in 0..u64::MAX {
-            match next_block(self.mark, self.bytes_from(at)) {
-                Ok(Some(_)) => {
-                    let piece = Piece::read(alloc, self.mark, &self.bytes, at)?;
-                    at = piece.end;
-                    pieces.push(piece)?;
-                }
-                // The end of the file, which may be torn.
-                Ok(None) => break,
-                Err(behind) => {
-                    let passed = self.bytes.len().saturating_sub(behind.len());
-                    at = passed.saturating_add(find_head(self.mark, behind));
-                }
-            }
-        }
-        Ok(pieces)
+        pieces_from(alloc, self.mark, &self.bytes, self.first.end)
     }
 
     fn bytes_from(&self, at: usize) -> &[u8] {
@@ -275,6 +274,51 @@ impl Sealed {
     }
 }
 
+/// Returns what stands in the whole blocks with this mark from this byte of a file on, wherever they are. Err: out of memory.
+pub fn pieces_from(
+    alloc: Global,
+    mark: u32,
+    bytes: &[u8],
+    at: usize,
+) -> Result<Vec<Piece>, Memory> {
+    let mut pieces = Vec::new(alloc);
+    let mut at = at;
+    for _ in 0..u64::MAX {
+        match next_block(mark, bytes.get(at..).unwrap_or(&[])) {
+            Ok(Some(_)) => {
+                let piece = Piece::read(alloc, mark, bytes, at)?;
+                at = piece.end;
+                pieces.push(piece)?;
+            }
+            // The end of the file, which may be torn.
+            Ok(None) => break,
+            Err(behind) => {
+                let passed = bytes.len().saturating_sub(behind.len());
+                at = passed.saturating_add(find_head(mark, behind));
+            }
+        }
+    }
+    Ok(pieces)
+}
+
+/// Returns the header of the text of a part of format 4.
+pub fn text_head(header: PartHeader) -> PartHead {
+    let PartHeader {
+        number,
+        part,
+        parts,
+        begin,
+        ..
+    } = header;
+    PartHead {
+        format: Format::Two,
+        number,
+        begin,
+        part,
+        parts,
+    }
+}
+
 /// A part of format 4.
 #[derive(Drop)]
 pub struct SealedPart {
@@ -296,20 +340,7 @@ impl SealedPart {
             Ok(body) => body,
             Err(Memory) => return Err(Fault::Memory),
         };
-        let PartHeader {
-            number,
-            part,
-            parts,
-            begin,
-            ..
-        } = header;
-        let head = PartHead {
-            format: Format::Two,
-            number,
-            begin,
-            part,
-            parts,
-        };
+        let head = text_head(header);
         Ok(SealedPart { bytes, head, body })
     }
 

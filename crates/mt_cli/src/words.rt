@@ -4,7 +4,7 @@ ghost use Rattle.std.specs.Prelude.{◌≤◌, IfErr};
 use crate::explaining::{or_tell, tell};
 use crate::grammar::{
     ACCEPT_LOSS, AT, BELOW, CHART, COLUMNS, COUNT, DRY_RUN, END, EXISTS, FILE_BYTES, FILES, FOLDER,
-    FROM, HEADER, JSON, KEY, LIMIT, LOG, MAX_LATE, MOST_TEXT, NO_LOGS, NUMBER, OUT, OUTPUT,
+    FROM, HEADER, JSON, KEY, LIMIT, LOG_OR_PART, MAX_LATE, MOST_TEXT, NO_LOGS, NUMBER, OUT, OUTPUT,
     PART_LIMIT, PIECES, PREFIX, PROGRESS, RECORD_KEY, SKIP, STATUS, STRICT, STRICT_RESUME,
     STRICT_SHELL, TEXT, TO, VERBOSE, WIDTH, WORKERS, grammar,
 };
@@ -104,7 +104,7 @@ fn read<'a>(alloc: Global, matches: &ArgMatches<'a>) -> Result<Command<'a>, Refu
         _ => return of_folder(alloc, name, matches),
     };
     Ok(Command::OnFile(FileCommand {
-        path: found(matches.get_str(LOG.name))?,
+        path: found(matches.get_str(LOG_OR_PART.name))?,
         is_verbose: matches.get_flag(VERBOSE.name),
         query,
     }))
