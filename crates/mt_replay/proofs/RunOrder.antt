@@ -15,6 +15,7 @@ use Rattle.mt_words.proofs.SliceLemmas.{by_slices}
 use Rattle.mt_replay.specs.Cuts.{is_below}
 use Rattle.mt_replay.specs.Steps.Numbers.{places, rest_of, rests, head_of, AreInOrder, BeginsWith, AreSorted}
 use Rattle.mt_replay.proofs.NumberLemmas.{rests_moved}
+use Rattle.mt_replay.proofs.KeyOrder.{joined_in_order}
 
 -- a lower head is of a lower rest
 head_orders : (bits : ℕ) (x y : List ℕ) → AreBytes x → AreBytes y → head_of bits x < head_of bits y → is_below y x ≡ false
@@ -22,18 +23,6 @@ head_orders bits x y p q low =
     let back = div-le-div (slice_in y) (slice_in x) (2 ^ bits) (pow_pos bits) in
     let above : slice_in x < slice_in y = grind arith in
     ap is_lt (by_slices y x q p (λ same. omega (arith, above, same)) ∙ sym (nat_cmp_is (slice_in y) (slice_in x) Greater above))
-
--- two lists in order, the second not below the first
-joined_in_order : (xs ys : List (List ℕ)) → AreInOrder xs → AreInOrder ys → ((i j : ℕ) (d : List ℕ) → i < length xs → j < length ys → is_below (get_or ys j d) (get_or xs i d) ≡ false) → AreInOrder (xs ++ ys)
-joined_in_order xs ys first second apart = λ k d low high.
-    let n = length xs in
-    let all = length-append xs ys in
-    let one = first k d low in
-    let two = second (k - n) d (omega arith) in
-    let edge = apart k (k + 1 - n) d in
-    let left = get_or_append_left xs ys d in
-    let right = get_or-append_right xs ys n in
-    grind arith
 
 -- the first run of the numbers that are left was sorted
 pub run_sorted : (bits : ℕ) (updates : List Update) (depth n : ℕ) (done left run : List ℕ) → 0 < n → n ≤ length left → AreSorted bits updates depth done left
@@ -63,8 +52,12 @@ run_sorted bits updates depth n done left run some fits was alike ends same sort
     let both = map-append rest done run in
     let Below : List ℕ → Type 0 = λ r. All (λ number. head_of bits r < number / w) (drop n left) in
     record {
-      in_order = subst AreInOrder (sym both) (joined_in_order A B was.in_order sorted (λ i j d low high.
-          head_orders bits (get_or A i d) (get_or B j d) (was.bytes i d low) (of_run j d high).1 (subst (λ (m : ℕ). head_of bits (get_or A i d) < m) (sym (of_run j d high).0) (was.below i d low 0 0 (omega (arith, some, fits))))));
+      in_order = subst AreInOrder (sym both) (joined_in_order is_below A B was.in_order sorted (λ d low high.
+          let left = get_or_append_left A B d (length A - 1) (omega arith) in
+          let right = get_or-append_right A B (length A) in
+          let next = of_run 0 d high in
+          let orders = head_orders bits (get_or A (length A - 1) d) (get_or B 0 d) (was.bytes (length A - 1) d (omega arith)) next.1 (subst (λ (m : ℕ). head_of bits (get_or A (length A - 1) d) < m) (sym next.0) (was.below (length A - 1) d (omega arith) 0 0 (omega (arith, some, fits)))) in
+          grind arith));
       bytes = subst (All AreBytes) (sym both) (All-append AreBytes A B was.bytes (λ k d low. (of_run k d low).1));
       below = subst (All Below) (sym both) (All-append Below A B (λ k d low. All-drop (λ (number : ℕ). head_of bits (get_or A k d) < number / w) n left (was.below k d low))
           (λ k d low. subst (λ (m : ℕ). All (λ number. m < number / w) (drop n left)) (sym (of_run k d low).0) later));

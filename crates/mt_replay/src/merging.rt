@@ -24,7 +24,7 @@ pub(crate) fn merge<'a>(
     requires within { All (λ number. number % 2 ^ bits < length texts.now) numbers.now }
     requires sorted { (d : Update) → InKeyOrder (in_turn texts.now d (places bits numbers.now)) }
     requires entries { InKeyOrder entries.now }
-    ensures { IfOk result (λ merged. (d : Update) → IsMerged (in_turn texts.now d (places bits numbers.now)) entries.now merged.items) }
+    ensures { IfOk result (λ merged. (d : Update) → IsMerged entries.now (in_turn texts.now d (places bits numbers.now)) merged.items) }
 {
     let mut merged = Vec::with_capacity(alloc, numbers.len().saturating_add(entries.len()))?;
     let mut next = 0;
@@ -49,9 +49,9 @@ fn add_below<'a>(
 ) -> Result<usize, Memory>
     requires { start ≤ length entries.now }
     ensures within { IfOk result (λ next. next ≤ length entries.now) }
-    ensures merged { IfOk result (λ next. (first second left : List Update) (text : Update) → text.key ≡ key.now →
-        IsMerging first second merged.old.items (text ∷ left) (drop start entries.now) →
-        IsMerging first second merged.new.items (text ∷ left) (drop next entries.now)) }
+    ensures merged { IfOk result (λ next. (first second later : List Update) (text : Update) → text.key ≡ key.now →
+        IsMerging first second merged.old.items (drop start entries.now) (text ∷ later) →
+        IsMerging first second merged.new.items (drop next entries.now) (text ∷ later)) }
     ensures ends { IfOk result (λ next. IsFrom key.now (drop next entries.now)) }
 {
     for at in start..entries.len() {

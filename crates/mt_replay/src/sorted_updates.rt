@@ -115,7 +115,7 @@ pub(crate) fn comes_before(first: &[u8], second: &[u8]) -> bool
 }
 
 /// Copies these bodies in the order of their keys. Err: out of memory.
-#[tactic(auto, using(crate::proofs::NumberLemmas::alike_none))]
+#[tactic(auto, using(crate::proofs::NumberLemmas::alike_none, crate::proofs::MergeLemmas::none_in_order))]
 pub(crate) fn in_order(alloc: Global, bodies: &Bodies) -> Result<SortedUpdates, Memory>
     ensures { IfOk result (λ sorted. IsPermutation bodies.now sorted) }
 {

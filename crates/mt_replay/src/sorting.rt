@@ -35,7 +35,7 @@ pub(crate) fn sorted_texts<'a>(
 ) -> Result<Vec<Text<'a>>, Memory>
     requires alike { AreAlike depth texts.items }
     requires in_order { InKeyOrder entries.now }
-    ensures same { IfOk result (λ sorted. IsPermutation (texts.entry.items ++ entries.now) sorted.items) }
+    ensures same { IfOk result (λ sorted. IsPermutation (entries.now ++ texts.entry.items) sorted.items) }
     ensures in_order { IfOk result (λ sorted. InKeyOrder sorted.items) }
 {
     let bits = bits_for(texts.len());

@@ -1,15 +1,12 @@
-use Rattle.std.proofs.Common.{◌≡◌, ◌++◌, List, refl, subst, sym}
+use Rattle.std.proofs.Common.{◌≡◌, ◌++◌, List, refl, subst}
 use Rattle.std.specs.Prelude.{IsPermutation}
 use Rattle.mt_words.specs.declared.update.Update.{Update}
 use Rattle.mt_words.specs.Walks.{joined}
-use Rattle.mt_replay.specs.Cuts.{updates_in, InKeyOrder}
+use Rattle.mt_replay.specs.Cuts.{updates_in}
 use Rattle.mt_replay.proofs.DealLemmas.{of_texts}
 use Rattle.std.proofs.lemmas.Result.{IfOk-weaker}
 use Rattle.mt_replay.proofs.PieceLemmas.{map_made, piece_made}
 use Rattle.mt_replay.proofs.divided.replay_range.Goals as goal
-
-pub replay_sorted-requires-clause-in_order : goal.replay_sorted-requires-clause-in_order
-replay_sorted-requires-clause-in_order g c = subst InKeyOrder (sym c.deref.ensures.value) c.in_ok-sorted.ensures.in_order
 
 pub returns : goal.returns
 returns g c =

@@ -1,14 +1,14 @@
-use Rattle.std.proofs.Common.{List, [], ◌++◌, ◌≡◌, ◌∙◌, sym, ap, subst}
+use Rattle.std.proofs.Common.{List, ◌++◌, ◌≡◌, ◌∙◌, sym, ap, subst}
 use Rattle.std.specs.Prelude.{IsPermutation}
-use Rattle.std.proofs.lemmas.List.{append-nil}
 use Rattle.std.proofs.lemmas.List.Elements.{filter-append}
+use Rattle.std.proofs.lemmas.List.Sorted.{IsPermutation-trans}
 use Rattle.std.proofs.lemmas.Result.{IfOk-weaker}
 use Rattle.mt_words.specs.declared.update.Update.{Update}
 use Rattle.mt_words.specs.Walks.{joined}
 use Rattle.mt_replay.specs.Cuts.{in_piece, updates_in, InKeyOrder}
 use Rattle.mt_replay.specs.Steps.Numbers.{AreAlike}
 use Rattle.mt_replay.proofs.FilterLemmas.{alike_in_piece}
-use Rattle.mt_replay.proofs.MergeLemmas.{none_in_order}
+use Rattle.mt_replay.proofs.MergeLemmas.{exchanged, none_in_order}
 use Rattle.mt_replay.proofs.divided.texts_in.Goals as goal
 
 pub sorted_texts-requires-clause-in_order : goal.sorted_texts-requires-clause-in_order
@@ -16,19 +16,16 @@ sorted_texts-requires-clause-in_order c = subst InKeyOrder (sym c.deref.ensures.
 
 pub returns-then-rise-clause-same : goal.returns-then-rise-clause-same
 returns-then-rise-clause-same c =
+    let range : List Update = c.args.range.now in
     let own : List Update = updates_in c.args.cuts.now c.args.piece (joined c.args.entries.now) in
-    let are : c.in_ok-texts.texts.items ++ c.deref.result.now ≡ c.args.range.now ++ own =
-    (λ i. c.in_ok-texts.ensures i ++ (c.deref.ensures.value ∙ c.in_ok-rise.ensures.texts ∙ ap (λ (us : List Update). us ++ own) c.new-parts.ensures.items) i) in
-    IfOk-weaker c.sorted_texts.result _ _ (λ sorted. subst (λ (us : List Update). IsPermutation us sorted.items) are) c.sorted_texts.ensures.same
-
-pub sorted_texts-requires-2-clause-in_order : goal.sorted_texts-requires-2-clause-in_order
-sorted_texts-requires-2-clause-in_order c = none_in_order
+    let parts : c.deref.result.now ≡ own = c.deref.ensures.value ∙ c.in_ok-rise.ensures.texts ∙ ap (λ (us : List Update). us ++ own) c.new-parts.ensures.items in
+    IfOk-weaker c.sorted_texts.result _ _ (λ sorted same. IsPermutation-trans (range ++ own) (own ++ range) sorted.items (exchanged range own)
+    (subst (λ (us : List Update). IsPermutation us sorted.items) (λ i. parts i ++ c.in_ok-texts.ensures i) same)) c.sorted_texts.ensures.same
 
 pub returns-clause-same : goal.returns-clause-same
 returns-clause-same c =
     let own : List Update = updates_in c.args.cuts.now c.args.piece (joined c.args.entries.now) in
-    let texts : List Update = c.add_parts-2.new.texts.items in
-    let are : texts ++ [] ≡ c.args.range.now ++ own = append-nil texts ∙ c.in_ok-add_parts.ensures.texts ∙ ap (λ (us : List Update). us ++ own) c.in_ok-texts.ensures in
+    let are : c.add_parts-2.new.texts.items ≡ c.args.range.now ++ own = c.in_ok-add_parts.ensures.texts ∙ ap (λ (us : List Update). us ++ own) c.in_ok-texts.ensures in
     IfOk-weaker c.sorted_texts-2.result _ _ (λ sorted. subst (λ (us : List Update). IsPermutation us sorted.items) are) c.sorted_texts-2.ensures.same
 
 pub sorted_texts-requires-clause-alike : goal.sorted_texts-requires-clause-alike

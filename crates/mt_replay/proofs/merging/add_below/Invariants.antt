@@ -7,5 +7,5 @@ use Rattle.mt_replay.proofs.merging.add_below.Given as goal
 abbrev pub invariant-loop-at : goal.invariant-loop-at
 invariant-loop-at l = record {
   within : l.at ≤ length l.entries;
-  merged : (first second left : List Update) (text : Update) → text.key ≡ l.key → IsMerging first second l.initial.merged.items (text ∷ left) (drop l.start l.entries) → IsMerging first second l.merged.items (text ∷ left) (drop l.at l.entries);
+  merged : (first second later : List Update) (text : Update) → text.key ≡ l.key → IsMerging first second l.initial.merged.items (drop l.start l.entries) (text ∷ later) → IsMerging first second l.merged.items (drop l.at l.entries) (text ∷ later);
 }

@@ -13,7 +13,7 @@ loop-number-init c = record {
       let turn : List Update = in_turn c.args.texts.now d (places c.args.bits c.args.numbers.now) in
       let entries : List Update = c.args.entries.now in
       let none : c.in_ok-merged.merged.items ≡ [] = search rules in
-      subst (λ (us : List Update). IsMerging turn entries us turn entries) (sym none) (merging_starts turn entries (c.requires.sorted d) c.requires.entries);
+      subst (λ (us : List Update). IsMerging entries turn us entries turn) (sym none) (merging_starts entries turn c.requires.entries (c.requires.sorted d));
 }
 
 pub loop-number-preserved : goal.loop-number-preserved
@@ -36,10 +36,10 @@ loop-number-preserved c = record {
       let there : get_or ps i 0 ≡ at = get_or-map place xs i 0 0 c.loop-number-test.true ∙ sym c.place_of.ensures.value in
       let is : turn (get_or ps i 0) ≡ text = ap turn there ∙ sym (c.index-texts-place_of.is ∙ get_or_default us at text d within) in
       let next : in_turn us d (drop i ps) ≡ text ∷ left = ap (in_turn us d) (drop_more ps i 0 (omega (arith, c.loop-number-test.true, length-map xs place))) ∙ ap (λ (u : Update). u ∷ left) is in
-      let was = subst (λ (vs : List Update). IsMerging (in_turn us d ps) entries c.loop-number.merged.items vs (drop c.loop-number.next entries)) next (c.loop-number.invariant.merging d) in
-      let below = c.in_ok-next.ensures.merged (in_turn us d ps) entries left text (sym c.key.ensures.value) was in
-      subst (λ (vs : List Update). IsMerging (in_turn us d ps) entries vs left rest) (sym (c.in_ok-push.ensures.items ∙ ap (λ (u : Update). merged ++ u ∷ []) c.copy.ensures))
-      (from_first (in_turn us d ps) entries merged left rest text below (subst (λ (k : List ℕ). IsFrom k rest) c.key.ensures.value c.in_ok-next.ensures.ends));
+      let was = subst (λ (vs : List Update). IsMerging entries (in_turn us d ps) c.loop-number.merged.items (drop c.loop-number.next entries) vs) next (c.loop-number.invariant.merging d) in
+      let below = c.in_ok-next.ensures.merged entries (in_turn us d ps) left text (sym c.key.ensures.value) was in
+      subst (λ (vs : List Update). IsMerging entries (in_turn us d ps) vs rest left) (sym (c.in_ok-push.ensures.items ∙ ap (λ (u : Update). merged ++ u ∷ []) c.copy.ensures))
+      (from_second entries (in_turn us d ps) merged rest left text below (subst (λ (k : List ℕ). IsFrom k rest) c.key.ensures.value c.in_ok-next.ensures.ends));
 }
 
 pub loop-entry-init : goal.loop-entry-init
@@ -48,7 +48,7 @@ loop-entry-init c = λ d.
     let ps : List ℕ = places c.args.bits xs in
     let none : in_turn c.args.texts.now d (drop c.loop-number.number-index ps) ≡ [] =
     ap (in_turn c.args.texts.now d) (drop_all c.loop-number.number-index ps (omega (arith, c.loop-number-test.false, length-map xs (λ (number : ℕ). number % 2 ^ c.args.bits)))) in
-    subst (λ (vs : List Update). IsMerging (in_turn c.args.texts.now d ps) c.args.entries.now c.loop-number.merged.items vs (drop c.loop-number.next c.args.entries.now)) none (c.loop-number.invariant.merging d)
+    subst (λ (vs : List Update). IsMerging c.args.entries.now (in_turn c.args.texts.now d ps) c.loop-number.merged.items (drop c.loop-number.next c.args.entries.now) vs) none (c.loop-number.invariant.merging d)
 
 pub loop-entry-preserved : goal.loop-entry-preserved
 loop-entry-preserved c = λ d.
@@ -63,9 +63,9 @@ loop-entry-preserved c = λ d.
     let within : i < length rest = omega (arith, c.loop-entry-test.true, length-take n rest) in
     let is : entry ≡ get_or rest i entry = c.entry-item.is ∙ get_or-take n rest i entry (omega (arith, within, length-drop c.loop-number.next entries)) in
     let item : drop i rest ≡ entry ∷ later = drop_more rest i entry within ∙ ap (λ (u : Update). u ∷ later) (sym is) in
-    let was = subst (IsMerging turn entries merged []) item (c.loop-entry.invariant d) in
-    subst (λ (vs : List Update). IsMerging turn entries vs [] later) (sym (c.in_ok-push-2.ensures.items ∙ ap (λ (u : Update). merged ++ u ∷ []) c.copy-in-loop-entry.ensures))
-    (from_second turn entries merged [] later entry was tt)
+    let was = subst (λ (vs : List Update). IsMerging entries turn merged vs []) item (c.loop-entry.invariant d) in
+    subst (λ (vs : List Update). IsMerging entries turn vs later []) (sym (c.in_ok-push-2.ensures.items ∙ ap (λ (u : Update). merged ++ u ∷ []) c.copy-in-loop-entry.ensures))
+    (from_first entries turn merged later [] entry was tt)
 
 pub returns : goal.returns
 returns c = λ d.
@@ -73,4 +73,4 @@ returns c = λ d.
     let entries : List Update = c.args.entries.now in
     let rest : List Update = drop c.loop-number.next entries in
     let all : length rest ≤ c.loop-entry.entry-index = omega (arith, c.loop-entry-test.false, length-take (length entries - c.loop-number.next) rest, length-drop c.loop-number.next entries) in
-    merging_ends turn entries c.loop-entry.merged.items (subst (IsMerging turn entries c.loop-entry.merged.items []) (drop_all c.loop-entry.entry-index rest all) (c.loop-entry.invariant d))
+    merging_ends entries turn c.loop-entry.merged.items (subst (λ (vs : List Update). IsMerging entries turn c.loop-entry.merged.items vs []) (drop_all c.loop-entry.entry-index rest all) (c.loop-entry.invariant d))

@@ -8,9 +8,9 @@ use Rattle.mt_replay.proofs.merging.merge.Given as goal
 abbrev pub invariant-loop-number : goal.invariant-loop-number
 invariant-loop-number l = record {
   within : l.next ≤ length l.entries;
-  merging : (d : Update) → IsMerging (in_turn l.texts d (places l.bits l.numbers)) l.entries l.merged.items (in_turn l.texts d (drop l.number-index (places l.bits l.numbers))) (drop l.next l.entries);
+  merging : (d : Update) → IsMerging l.entries (in_turn l.texts d (places l.bits l.numbers)) l.merged.items (drop l.next l.entries) (in_turn l.texts d (drop l.number-index (places l.bits l.numbers)));
 }
 
 -- all texts, and the entries so far, are merged
 abbrev pub invariant-loop-entry : goal.invariant-loop-entry
-invariant-loop-entry l = (d : Update) → IsMerging (in_turn l.texts d (places l.bits l.numbers)) l.entries l.merged.items [] (drop l.entry-index (drop l.next l.entries))
+invariant-loop-entry l = (d : Update) → IsMerging l.entries (in_turn l.texts d (places l.bits l.numbers)) l.merged.items (drop l.entry-index (drop l.next l.entries)) []

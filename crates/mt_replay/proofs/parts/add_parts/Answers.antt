@@ -2,8 +2,8 @@ use Rattle.std.proofs.Common.{◌≡◌, ◌-◌, ◌++◌, List, length, get_or
 use Rattle.std.proofs.lemmas.List.{length-append}
 use Rattle.std.proofs.lemmas.Grind.{common_steps}
 use Rattle.mt_words.specs.declared.update.Update.{Update}
-use Rattle.mt_replay.specs.Cuts.{is_below, updates_in, InKeyOrder}
-use Rattle.mt_replay.proofs.MergeLemmas.{joined_in_order}
+use Rattle.mt_replay.specs.Cuts.{is_below, key_below, updates_in, InKeyOrder}
+use Rattle.mt_replay.proofs.KeyOrder.{joined_in_order}
 use Rattle.mt_replay.proofs.parts.add_parts.Goals as goal
 
 pub loop-updates-preserved : goal.loop-updates-preserved
@@ -18,7 +18,7 @@ loop-updates-preserved c =
           let all : c.deref.result.now ≡ old ++ own = c.deref.ensures.value ∙ c.in_ok-add_part.ensures.texts in
           let at : c.len-start.result ≡ length old = c.len-start.ensures ∙ c.loop-updates.texts.ok.0 in
           subst InKeyOrder (sym c.in_ok-add_part.ensures.texts)
-          (joined_in_order old own (I.in_order (c.rise_on-rise.ensures.before rise) order) c.in_ok-add_part.ensures.in_order (λ d some more.
+          (joined_in_order key_below old own (I.in_order (c.rise_on-rise.ensures.before rise) order) c.in_ok-add_part.ensures.in_order (λ d some more.
           (λ i. is_below (get_or (sym all i) (sym at i) d).key (get_or (sym all i) (sym at i - 1) d).key)
           ∙ c.rise_on-rise.ensures.from rise (omega (arith, at, some)) (omega (arith, at, more, ap (λ (us : List Update). length us) all, length-append old own)) d));
     }

@@ -1,6 +1,6 @@
 use Rattle.std.proofs.Common.{◌≡◌, ◌++◌, ◌%◌, ◌^◌, ◌<◌, [], ℕ, List, length, sym, subst, ◌∙◌}
 use Rattle.std.specs.Prelude.{All, IsPermutation}
-use Rattle.std.proofs.lemmas.List.Sorted.{IsPermutation-trans, IsPermutation-append_left}
+use Rattle.std.proofs.lemmas.List.Sorted.{IsPermutation-trans, IsPermutation-append_right}
 use Rattle.std.proofs.lemmas.Result.{IfOk-weaker}
 use Rattle.mt_words.specs.declared.update.Update.{Update}
 use Rattle.mt_replay.specs.Cuts.{InKeyOrder}
@@ -40,8 +40,8 @@ returns-clause-same c =
     let numbers : List ℕ = c.in_ok-numbers.numbers.items in
     let turn : List Update = in_turn us some (places bits numbers) in
     let turned : in_turn c.deref-2.result.now some (places bits c.deref-3.result.now) ≡ turn = λ i. in_turn (c.deref-2.ensures.value i) some (places bits (c.deref-3.ensures.value i)) in
-    let moved = IsPermutation-append_left entries us turn (in_turn_moved bits us some numbers (rw c.deref.ensures.value at c.in_ok-numbers.ensures.same)) in
-    IfOk-weaker c.merge.result _ _ (λ sorted are. IsPermutation-trans (us ++ entries) (turn ++ entries) sorted.items moved (subst (λ (vs : List Update). IsPermutation (vs ++ entries) sorted.items) turned (are some).same)) c.merge.ensures
+    let moved = IsPermutation-append_right entries us turn (in_turn_moved bits us some numbers (rw c.deref.ensures.value at c.in_ok-numbers.ensures.same)) in
+    IfOk-weaker c.merge.result _ _ (λ sorted are. IsPermutation-trans (entries ++ us) (entries ++ turn) sorted.items moved (subst (λ (vs : List Update). IsPermutation (entries ++ vs) sorted.items) turned (are some).same)) c.merge.ensures
 
 pub returns-clause-in_order : goal.returns-clause-in_order
 returns-clause-in_order c = IfOk-weaker c.merge.result _ _ (λ sorted are. (are some).in_order) c.merge.ensures

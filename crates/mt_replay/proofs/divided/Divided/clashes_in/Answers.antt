@@ -1,12 +1,9 @@
-use Rattle.std.proofs.Common.{List, sym, subst}
+use Rattle.std.proofs.Common.{List}
 use Rattle.std.proofs.lemmas.Result.{IfOk-weaker}
 use Rattle.mt_words.specs.declared.update.Update.{Update}
-use Rattle.mt_replay.specs.Cuts.{updates_in, InKeyOrder}
+use Rattle.mt_replay.specs.Cuts.{updates_in}
 use Rattle.mt_replay.proofs.AuditorLemmas.{moved_clashes}
 use Rattle.mt_replay.proofs.divided.Divided.clashes_in.Goals as goal
-
-pub clashes_of-requires : goal.clashes_of-requires
-clashes_of-requires c = subst InKeyOrder (sym c.deref.ensures.value) c.in_ok-sorted.ensures.in_order
 
 pub returns : goal.returns
 returns c =

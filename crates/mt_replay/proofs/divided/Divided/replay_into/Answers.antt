@@ -1,11 +1,6 @@
-use Rattle.std.proofs.Common.{sym, subst}
 use Rattle.std.proofs.lemmas.Result.{IfOk-weaker}
-use Rattle.mt_replay.specs.Cuts.{InKeyOrder}
 use Rattle.mt_replay.proofs.PieceLemmas.{map_made, piece_made}
 use Rattle.mt_replay.proofs.divided.Divided.replay_into.Goals as goal
-
-pub replay_sorted-requires-clause-in_order : goal.replay_sorted-requires-clause-in_order
-replay_sorted-requires-clause-in_order g c = subst InKeyOrder (sym c.deref.ensures.value) c.in_ok-sorted.ensures.in_order
 
 pub returns : goal.returns
 returns g c =
