@@ -50,28 +50,31 @@ impl<'a, R: Host> Run<'a, R> {
         let mut out = BufWriter::with_capacity(self.rt.alloc(), PRINTED_AT_ONCE, out)?;
         let caveat = print_answer(&recovered, query, &mut out)?;
         out.flush()?;
-        let caveat = self.add_noted(query, caveat, err)?;
-        if !matches!(&caveat, Some(Caveat::Losses(_))) {
-            self.folder.tell_losses(Losses::of(recovered.report()), err);
+        let caveat = self.add_noted(query, caveat, recovered.report().writers, err)?;
+        match (&caveat, query) {
+            (Some(Caveat::Losses(_)), _) => {}
+            (_, StoreQuery::Report { .. }) => self.folder.tell_reported(recovered.report(), err),
+            _ => self.folder.tell_losses(Losses::of(recovered.report()), err),
         }
         mem::forget(recovered);
         Ok(caveat)
     }
 
-    /// Tells after a report what is noted as lost. If it is strict, that is a caveat.
+    /// Tells after a report what is noted as lost, and of its number of writers. If it is strict, that is a caveat.
     fn add_noted<E: Write>(
         &self,
         query: &StoreQuery,
         caveat: Option<Caveat>,
         err: &mut E,
     ) -> Result<Option<Caveat>, Refusal<'static>> {
+        writers: usize,
         match query {
             StoreQuery::Report {
                 is_strict: true,
                 ..
-            } => self.tell_noted(caveat, err),
+            } => self.tell_noted(caveat, writers, err),
             StoreQuery::Report { .. } => {
-                self.tell_noted(None, err)?;
+                self.tell_noted(None, writers, err)?;
                 Ok(caveat)
             }
             _ => Ok(caveat),

@@ -8,6 +8,7 @@ use crate::sealed::PART_HEADER;
 use mt_record::{LogFront, Rest, Segment};
 use mt_recover::{LogCheck, Refusal, Start};
 use mt_text::Shown;
+use mt_scan::writer_count;
 use mt_words::Fault;
 use std::alloc::{AllocError, Global};
 use std::io::{self, Write};
@@ -47,6 +48,8 @@ pub struct CheckedLog<'a> {
     /// Where the hole before it begins, if there is one and recovery names no fault.
     pub hole: Option<u64>,
 }
+    /// The name of another log that it is a beginning of, or equal to, if one was looked for and found.
+    pub copy: Option<&'a str>,
 
 /// What a check finds in a part.
 #[derive(Drop)]
@@ -256,6 +259,15 @@ pub fn unused_worker(alloc: Global, logs: &[CheckedLog<'_>]) -> Result<u32, Allo
             unused = unused.saturating_add(1);
         }
     }
+    /// Returns the number of writers of the logs that have a header. Err: out of memory.
+    pub fn writers(&self, alloc: Global) -> Result<usize, AllocError> {
+        let mut fronts = Vec::with_capacity(alloc, self.logs.len())?;
+        for front in self.logs.iter().filter_map(CheckedLog::front) {
+            fronts.push(*front)?;
+        }
+        Ok(writer_count(&fronts))
+    }
+
     Ok(unused)
 }
 
@@ -295,9 +307,22 @@ impl CheckedLog<'_> {
         }
     }
 
+    /// Returns whether it has complete records, behind its header or, without one, anywhere.
+    pub fn has_records(&self) -> bool {
+        match self.front() {
+            Some(front) => front.count > 0,
+            None => matches!(&self.ending, Some(ending) if ending.again.is_some()),
+        }
+    }
+
+    /// Returns whether it has a complete record that is no mark.
+    pub fn has_updates(&self) -> bool {
+        matches!(&self.check, Ok(check) if check.front.count > check.marks)
+    }
+
     /// Returns its line. The late updates are known if there is a cutoff. Where the records end is told if it is known
     /// in bytes of the file. The reason ends the line, since it has blanks.
-    fn fields(&self, number: usize, has_cutoff: bool) -> [Field<'_>; 20] {
+    fn fields(&self, number: usize, has_cutoff: bool) -> [Field<'_>; 21] {
         let state = match &self.check {
             Ok(check) => match check.front.rest {
                 Rest::Nothing => Cell::Word("whole"),
@@ -366,6 +391,10 @@ impl CheckedLog<'_> {
 
 impl CheckedPart<'_> {
     /// Returns whether it is a part of this checkpoint and broken, but not by a resume that was stopped: that leaves its header.
+        let copy = match self.copy {
+            Some(name) => Cell::Name(name),
+            None => Cell::Number(None),
+        };
     pub fn is_damaged(&self, number: u32) -> bool {
         match self.state {
             PartState::Broken { checkpoint, .. } => {
@@ -386,6 +415,7 @@ impl CheckedPart<'_> {
                 let [place, parts] = [u64::from(part.place), u64::from(part.parts)];
                 let [begin, end, entries] = [part.begin, part.end, part.entries as u64];
                 let numbers = [
+            ("copy", copy),
                     u64::from(part.checkpoint),
                     place,
                     parts,

@@ -33,7 +33,8 @@ impl<'a, R: Host> Run<'a, R> {
         err: &mut E,
     ) -> Result<Option<Caveat>, Halt<'a>> {
         let alloc = self.rt.alloc();
-        let checked = self.check_all(err)?;
+        let mut checked = self.check_all(err)?;
+        self.find_copies(&mut checked)?;
         let mut out = BufWriter::with_capacity(alloc, PRINTED_AT_ONCE, out)?;
         match form {
             CheckForm::Chart(width) => self.draw_chart(&checked, width, &mut out)?,
@@ -46,12 +47,18 @@ impl<'a, R: Host> Run<'a, R> {
         if self.folder.is_verbose {
             checked.tell_hints(err);
         }
-        let losses = checked.losses();
+        let caveat = checked.losses().map(Caveat::Losses);
+        let caveat = self.tell_noted(caveat, checked.writers(alloc)?, err)?;
         if let Some(refusal) = checked.unopened {
             return Err(Halt::from(refusal));
         }
         checked.start?;
-        Ok(self.tell_noted(losses.map(Caveat::Losses), err)?)
+        let Some(caveat) = caveat else {
+            return Ok(None);
+        };
+        // Its lines have what to try.
+        caveat.tell(err);
+        Ok(Some(Caveat::No))
     }
 
     /// Checks all logs and parts. If there is a cutoff, the logs are read once more, to count what is late. What follows the
@@ -102,6 +109,7 @@ impl<'a, R: Host> Run<'a, R> {
                 end,
                 ending,
                 hole: holes.get(log).copied().flatten(),
+                copy: None,
                 check,
             })?;
         }

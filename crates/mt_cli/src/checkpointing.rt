@@ -34,10 +34,12 @@ impl<'a, R: Host> Run<'a, R> {
     ) -> Result<Option<Caveat>, Halt<'a>> {
         let looks = self.look_at_logs()?;
         let recovered = self.recover(err)?;
-        let loss = if Losses::of(recovered.report()).is_some() {
+        let writers = recovered.report().writers;
+        let others = self.folder.other_writers(self.rt.alloc(), writers)?;
+        let loss = if others.is_some() || Losses::of(recovered.report()).is_some() {
             // Only a check tells which file shows it.
             let checked = self.check_all(err)?;
-            checked.loss(self.rt.alloc(), new.budget.most_late)?
+            checked.loss(self.rt.alloc(), new.budget.most_late, others)?
         } else {
             None
         };

@@ -96,6 +96,9 @@ pub const FILE_BYTES: Argument = argument! { "file-bytes", UpTo("N", u64::MAX, "
 pub const PIECES: Argument = argument! { "pieces", UpTo("P", MOST_PIECES as u64, "512"),
     "Cut the keys into at most this many ranges, which threads replay: 1 to 4096" };
 
+pub const WRITERS: Argument = argument! { "writers", From("N", 1, u64::MAX),
+    "How many writers there must be, where a worker's segments are one: other numbers are told, for --strict, resume and checkpoint as a loss" };
+
 pub const VERBOSE: Argument = argument! { "verbose", Flag,
     "After a failure, print its file or the system's reason, and what to try; after an answer, what it lost; of a damaged log, what may have happened" };
 
@@ -203,7 +206,7 @@ macro_rules! subcommands {
 
 /// The questions over a recovered store, with the arguments beside those of `RECOVERY`.
 const QUESTIONS: &[Subcommand] = subcommands! {
-    "report", [JSON, STRICT],
+    "report", [WRITERS, JSON, STRICT],
         "Prints what recovery found in the logs and parts, as NAME=VALUE lines",
         "Example: mtrecover report examples/store";
     "get", [JSON, TEXT, KEY, EXISTS],
@@ -228,13 +231,13 @@ const OTHERS: &[Subcommand] = subcommands! {
     "audit", [FOLDER, WORKERS, FILES, FILE_BYTES, VERBOSE, PROGRESS],
         "Prints each version of a key that two or more surviving log updates share, with their records",
         "Example: mtrecover audit examples/store";
-    "check", [FOLDER, WORKERS, FILES, FILE_BYTES, VERBOSE, PROGRESS, JSON, CHART, WIDTH],
+    "check", [FOLDER, WORKERS, FILES, FILE_BYTES, VERBOSE, PROGRESS, WRITERS, JSON, CHART, WIDTH],
         "Prints what is in each log, part and checkpoint, all that is wrong, and where recovery begins",
         "Example: mtrecover check examples/store";
-    "resume", [FOLDER, WORKERS, FILES, FILE_BYTES, VERBOSE, PROGRESS, JSON, STRICT_RESUME, DRY_RUN, NO_LOGS, MAX_LATE, ACCEPT_LOSS],
+    "resume", [FOLDER, WORKERS, FILES, FILE_BYTES, VERBOSE, PROGRESS, WRITERS, JSON, STRICT_RESUME, DRY_RUN, NO_LOGS, MAX_LATE, ACCEPT_LOSS],
         "Makes the logs and parts those with which a server goes on after a crash; the store stays the same. The server must be down",
         "Example: mtrecover resume DIR --dry-run";
-    "checkpoint", [FOLDER, WORKERS, FILES, FILE_BYTES, VERBOSE, PROGRESS, PIECES, OUT, NUMBER, PART_LIMIT, MAX_LATE, ACCEPT_LOSS],
+    "checkpoint", [FOLDER, WORKERS, FILES, FILE_BYTES, VERBOSE, PROGRESS, WRITERS, PIECES, OUT, NUMBER, PART_LIMIT, MAX_LATE, ACCEPT_LOSS],
         "Writes the store as a checkpoint and a log into a new folder. The server must be down",
         "Example: mtrecover checkpoint examples/store fresh";
     "forget", [FOLDER, WORKERS, FILES, FILE_BYTES, VERBOSE, PROGRESS],

@@ -25,6 +25,7 @@ mod checked;
 mod checking;
 mod checkpointing;
 mod completions;
+mod copies;
 mod cutting;
 mod ending;
 mod explaining;

@@ -1,6 +1,7 @@
 //! Lists the files of a folder.
 use crate::host::Host;
 use crate::request::Folder;
+use crate::saving::UNFINISHED;
 use mt_recover::{Failure, Refusal};
 use std::alloc::{AllocError, Global};
 use std::{fs, io};
@@ -19,6 +20,7 @@ pub fn list<'a, R: Host>(rt: &R, folder: &Folder<'a>) -> Result<Names, Refusal<'
     }
     names.logs.sort_unstable();
     names.parts.sort_unstable();
+    names.ignored.sort_unstable();
     Ok(names)
 }
 
@@ -31,13 +33,15 @@ fn read_names<R: Host>(rt: &R, folder: &str) -> io::Result<Names> {
     Ok(names)
 }
 
-/// The names of the logs and parts of a folder, each kind in byte order.
+/// The names of the logs and parts of a folder, and of files that are taken for neither, each kind in byte order.
 #[derive(Drop)]
 pub struct Names {
     /// The names of the logs. They end in `.mtl`.
     pub logs: Vec<String>,
     /// The names of the parts. They end in `.mtc`.
     pub parts: Vec<String>,
+    /// The names that are ignored, but look like those of logs and parts, as `a.MTL` and `a.mtl.gz`.
+    pub ignored: Vec<String>,
 }
 
 impl Names {
@@ -46,6 +50,7 @@ impl Names {
         Names {
             logs: Vec::new(alloc),
             parts: Vec::new(alloc),
+            ignored: Vec::new(alloc),
         }
     }
 
@@ -56,16 +61,32 @@ impl Names {
         Ok(names)
     }
 
-    /// Adds the name of a log or a part. Ignores any other name. Err: out of memory.
+    /// Adds the name of a log or a part, or one that looks like it. Passes over any other name. Err: out of memory.
     pub(crate) fn add(&mut self, alloc: Global, name: &str) -> Result<(), AllocError> {
         let kind = if name.ends_with(".mtl") {
             &mut self.logs
         } else if name.ends_with(".mtc") {
             &mut self.parts
+        } else if looks_alike(name) {
+            &mut self.ignored
         } else {
             return Ok(());
         };
         kind.push(String::from_str(alloc, name)?)?;
         Ok(())
     }
+}
+
+/// Returns whether `.mtl` or `.mtc` is in a name, in any case. A file that is being written has such a name, too, which does
+/// not count.
+fn looks_alike(name: &str) -> bool {
+    if name.ends_with(UNFINISHED) {
+        return false;
+    }
+    for ending in name.as_bytes().windows(4) {
+        if ending.eq_ignore_ascii_case(b".mtl") || ending.eq_ignore_ascii_case(b".mtc") {
+            return true;
+        }
+    }
+    false
 }

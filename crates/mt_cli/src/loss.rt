@@ -2,10 +2,11 @@
 use crate::caveat::plural;
 use crate::checked::{Checked, CheckedLog};
 use crate::fates::{Fate, numbers_of};
+use crate::request::Folder;
 use mt_recover::Start;
 use mt_text::Shown;
 use mt_words::Memory;
-use std::alloc::Global;
+use std::alloc::{AllocError, Global};
 use std::io::Write;
 
 /// How much may be lost without being accepted, as residue of a crash.
@@ -30,13 +31,36 @@ impl Loss {
     }
 }
 
+impl Folder<'_> {
+    /// Returns that there is this number of writers, if another one must be there. Err: out of memory.
+    pub fn other_writers(&self, alloc: Global, count: usize) -> Result<Option<String>, AllocError> {
+        match self.writers {
+            Some(wanted) if wanted != count as u64 => {
+                let s = plural(count as u128);
+                let line = format!(in alloc; "{count} writer{s}, but {wanted} must be there")?;
+                Ok(Some(line))
+            }
+            _ => Ok(None),
+        }
+    }
+}
+
 impl Checked<'_> {
-    /// Returns what recovery loses that no crash loses. None: nothing, or it names a fault. Err: out of memory.
-    pub fn loss(&self, alloc: Global, most_late: u64) -> Result<Option<Loss>, Memory> {
+    /// Returns what recovery loses that no crash loses, and the line on the number of writers if there is one. None: nothing, or
+    /// it names a fault. Err: out of memory.
+    pub fn loss(
+        &self,
+        alloc: Global,
+        most_late: u64,
+        writers: Option<String>,
+    ) -> Result<Option<Loss>, Memory> {
         let Ok(start) = &self.start else {
             return Ok(None);
         };
         let mut lines = Vec::new(alloc);
+        if let Some(line) = writers {
+            lines.push(line)?;
+        }
         self.add_late(alloc, start.window.cutoff, most_late, &mut lines)?;
         for log in &self.logs {
             log.add_holes(alloc, &mut lines)?;

@@ -1,5 +1,5 @@
 //! Notes in a folder what its store lost, for when nothing else shows it any more.
-use crate::caveat::Caveat;
+use crate::caveat::{Caveat, plural};
 use crate::halt::Halt;
 use crate::host::{Host, Run};
 use crate::loss::Loss;
@@ -26,20 +26,45 @@ impl<'a, R: Host> Run<'a, R> {
         }
     }
 
-    /// Tells what is noted, a line each, and returns that this is a caveat, unless there is another one. A write error is
-    /// passed over.
+    /// Tells what is noted, a line each, that names are ignored, and that there is another number of writers than must be, if
+    /// there is this one. Returns that this is a caveat, unless there is another one. A write error is passed over.
     pub fn tell_noted<E: Write>(
         &self,
         caveat: Option<Caveat>,
+        writers: usize,
         err: &mut E,
     ) -> Result<Option<Caveat>, Refusal<'static>> {
-        let Some(noted) = self.noted()? else {
-            return Ok(caveat);
-        };
-        for line in noted.lines() {
-            let _ = writeln!(err, "mtrecover: {NOTES}: {}", Shown(line));
+        let mut is_caveat = self.tell_ignored(err);
+        if let Some(line) = self.folder.other_writers(self.rt.alloc(), writers)? {
+            let _ = writeln!(err, "mtrecover: {line}");
+            is_caveat = true;
         }
-        Ok(caveat.or(Some(Caveat::No)))
+        if let Some(noted) = self.noted()? {
+            for line in noted.lines() {
+                let _ = writeln!(err, "mtrecover: {NOTES}: {}", Shown(line));
+            }
+            is_caveat = true;
+        }
+        Ok(if is_caveat {
+            caveat.or(Some(Caveat::No))
+        } else {
+            caveat
+        })
+    }
+
+    /// Tells how many names are ignored that look like those of logs and parts, and the first of them. Returns whether there are
+    /// some.
+    fn tell_ignored<E: Write>(&self, err: &mut E) -> bool {
+        let Some(first) = self.names.ignored.first() else {
+            return false;
+        };
+        let count = self.names.ignored.len();
+        let (s, first) = (plural(count as u128), Shown(first.as_str()));
+        let _ = writeln!(
+            err,
+            "mtrecover: {count} name{s} ignored, as {first}: logs end in .mtl, parts in .mtc"
+        );
+        true
     }
 
     /// Prints what is noted, and deletes the notes.

@@ -146,23 +146,31 @@ impl<'a, R: Host> Run<'a, R> {
         }
     }
 
-    /// Returns whether the file of this name is of format 4, as its first bytes say. None: it is no regular file, as a pipe, or
-    /// cannot be read. Err: out of memory.
+    /// Returns whether the file of this name is of format 4, as its first bytes say. None: they are not known. Err: out of memory.
     pub fn is_sealed(&self, name: &str) -> Result<Option<bool>, Memory> {
         if self.size_of(name).is_none() {
             return Ok(None);
         }
         let mut front = Vec::new(self.rt.alloc());
         let read = match self.open(name) {
-            Ok(file) => file.take(MAGIC_BYTES).read_to_end(&mut front),
+            Ok(file) => file.take(most).read_to_end(&mut front),
             Err(error) => Err(error),
         };
         match read {
-            Ok(_) => Ok(Some(is_sealed(&front))),
+            Ok(_) => Ok(Some(front)),
             Err(error) if error.kind() == ErrorKind::OutOfMemory => Err(Memory),
             Err(_) => Ok(None),
         }
     }
+        match self.first_bytes(name, MAGIC_BYTES)? {
+            Some(magic) => Ok(Some(is_sealed(&magic))),
+            None => Ok(None),
+        }
+    }
+
+    /// Returns the first bytes of the file of this name, at most this number. None: it is no regular file, as a pipe, or cannot be
+    /// read. Err: out of memory.
+    pub fn first_bytes(&self, name: &str, most: u64) -> Result<Option<Vec<u8>>, Memory> {
 
     /// Returns the size of the file of this name in bytes. None: the system does not tell, or it is no regular file.
     pub fn size_of(&self, name: &str) -> Option<u64> {

@@ -89,6 +89,8 @@ pub struct Folder<'a> {
     pub telling: Telling,
     /// Recovery cuts the keys into at most this many pieces. None: the command takes no store.
     pub pieces: Option<Pieces>,
+    /// How many writers there must be, as a report counts them. None: any number.
+    pub writers: Option<u64>,
 }
 
 /// How to print what is in the files of a folder.

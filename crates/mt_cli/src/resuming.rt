@@ -35,7 +35,9 @@ impl<'a, R: Host> Run<'a, R> {
         let looks = self.look_at_logs()?;
         let checked = self.check_all(err)?;
         let losses = checked.losses();
-        let loss = checked.loss(self.rt.alloc(), how.budget.most_late)?;
+        let writers = checked.writers(self.rt.alloc())?;
+        let others = self.folder.other_writers(self.rt.alloc(), writers)?;
+        let loss = checked.loss(self.rt.alloc(), how.budget.most_late, others)?;
         let version = checked.version();
         let mut parts = checked.parts;
         if let Some(refusal) = checked.unopened {
@@ -49,7 +51,7 @@ impl<'a, R: Host> Run<'a, R> {
             loss.tell(err);
         }
         if how.is_strict {
-            let noted = self.tell_noted(None, err)?;
+            let noted = self.tell_noted(None, writers, err)?;
             if losses.is_some() {
                 return Ok(losses.map(Caveat::Losses));
             }

@@ -13,7 +13,7 @@ use std::path::{Path, PathBuf};
 use std::random::RandomSource;
 
 /// What is added to the path of a file while it is written. No log and no part has such a name.
-const UNFINISHED: &str = "new";
+pub const UNFINISHED: &str = "new";
 
 /// What to try after a failed sync. If it is tried again, it may succeed although bytes are lost.
 const AFTER_FAILED_SYNC: &str =

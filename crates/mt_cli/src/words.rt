@@ -6,7 +6,7 @@ use crate::grammar::{
     ACCEPT_LOSS, AT, BELOW, CHART, COLUMNS, COUNT, DRY_RUN, END, EXISTS, FILE_BYTES, FILES, FOLDER,
     FROM, HEADER, JSON, KEY, LIMIT, LOG_OR_PART, MAX_LATE, MOST_TEXT, NO_LOGS, NUMBER, OUT, OUTPUT,
     PART_LIMIT, PIECES, PREFIX, PROGRESS, RECORD_KEY, SKIP, STATUS, STRICT, STRICT_RESUME,
-    STRICT_SHELL, TEXT, TO, VERBOSE, WIDTH, WORKERS, grammar,
+    STRICT_SHELL, TEXT, TO, VERBOSE, WIDTH, WORKERS, WRITERS, grammar,
 };
 use crate::listing::Names;
 use crate::loss::Budget;
@@ -136,6 +136,7 @@ fn of_folder<'a>(
             is_strict: matches.get_flag(STRICT_RESUME.name),
             is_json: matches.get_flag(JSON.name),
             has_no_logs: matches.get_flag(NO_LOGS.name),
+            writers: matches.get_one(WRITERS.name),
             budget: budget(matches)?,
         }),
         "checkpoint" => {
