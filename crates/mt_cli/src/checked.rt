@@ -3,12 +3,13 @@ use crate::beginning::version_of;
 use crate::caveat::Losses;
 use crate::ending::{Again, Ending};
 use crate::fates::{Fate, PartState, numbers_of};
+use crate::heads::continued;
 use crate::row::{Cell, Field, write_row};
 use crate::sealed::PART_HEADER;
 use mt_record::{LogFront, Rest, Segment};
 use mt_recover::{LogCheck, Refusal, Start};
-use mt_text::Shown;
 use mt_scan::writer_count;
+use mt_text::Shown;
 use mt_words::Fault;
 use std::alloc::{AllocError, Global};
 use std::io::{self, Write};
@@ -47,9 +48,9 @@ pub struct CheckedLog<'a> {
     pub ending: Option<Ending>,
     /// Where the hole before it begins, if there is one and recovery names no fault.
     pub hole: Option<u64>,
-}
     /// The name of another log that it is a beginning of, or equal to, if one was looked for and found.
     pub copy: Option<&'a str>,
+}
 
 /// What a check finds in a part.
 #[derive(Drop)]
@@ -195,22 +196,48 @@ impl<'a> Checked<'a> {
         bytes.checked_mul(MEMORY_A_BYTE)
     }
 
-    /// Prints what may have happened to each damaged log, and which broken parts may close a gap. A write error is passed over.
+    /// Returns whether recovery names the log of this number as a segment that is torn, though another one follows it.
+    pub fn is_torn_segment(&self, number: usize) -> bool {
+        matches!(self.start, Err(Fault::Torn { log }) if log == number)
+    }
+
+    /// Prints what may have happened to each damaged log, and what may close a gap. A write error is passed over.
     pub fn tell_hints<E: Write>(&self, err: &mut E) {
         for log in &self.logs {
             if let Some(ending) = &log.ending {
                 ending.tell_hints(!log.is_torn(), log.file.name, err);
             }
         }
-        if !matches!(self.start, Err(Fault::Gap { .. })) {
+        let Err(Fault::Gap { log }) = self.start else {
             return;
-        }
+        };
+        self.tell_changed(log, err);
         for part in &self.parts {
             if let PartState::Broken { checkpoint, .. } = part.state {
                 let _ = writeln!(
                     err,
                     "hint: {}: it is broken: cut --skip saves its entries, and then checkpoint {checkpoint} may close the gap",
                     Shown(part.file.name)
+                );
+            }
+        }
+    }
+
+    /// Prints that the number of the worker of this log looks changed, if the log begins where the segment before it ends of
+    /// another worker. A write error is passed over.
+    fn tell_changed<E: Write>(&self, log: usize, err: &mut E) {
+        let Some(gap) = self.logs.get(log) else {
+            return;
+        };
+        for log in &self.logs {
+            let (Some(front), Some(next)) = (log.front(), gap.front()) else {
+                continue;
+            };
+            if let Some(Segment { worker, number }) = continued(front, next) {
+                let _ = writeln!(
+                    err,
+                    "hint: {}: its from is where the segment before it of worker {worker} ends: was it segment {number} of that worker?",
+                    Shown(gap.file.name)
                 );
             }
         }
@@ -230,6 +257,15 @@ impl<'a> Checked<'a> {
         let skipped = start.choice.skipped.len() as u128;
         let nameless = start.choice.nameless.len() as u128;
         Losses::new([torn, holes, self.late(), skipped, nameless])
+    }
+
+    /// Returns the number of writers of the logs that have a header. Err: out of memory.
+    pub fn writers(&self, alloc: Global) -> Result<usize, AllocError> {
+        let mut fronts = Vec::with_capacity(alloc, self.logs.len())?;
+        for front in self.logs.iter().filter_map(CheckedLog::front) {
+            fronts.push(*front)?;
+        }
+        Ok(writer_count(&fronts))
     }
 
     /// Returns the number of late updates, if there is a cutoff.
@@ -259,15 +295,6 @@ pub fn unused_worker(alloc: Global, logs: &[CheckedLog<'_>]) -> Result<u32, Allo
             unused = unused.saturating_add(1);
         }
     }
-    /// Returns the number of writers of the logs that have a header. Err: out of memory.
-    pub fn writers(&self, alloc: Global) -> Result<usize, AllocError> {
-        let mut fronts = Vec::with_capacity(alloc, self.logs.len())?;
-        for front in self.logs.iter().filter_map(CheckedLog::front) {
-            fronts.push(*front)?;
-        }
-        Ok(writer_count(&fronts))
-    }
-
     Ok(unused)
 }
 
@@ -278,6 +305,19 @@ impl CheckedLog<'_> {
             Ok(check) => Some(&check.front),
             Err(_) => None,
         }
+    }
+
+    /// Returns whether it has complete records, behind its header or, without one, anywhere.
+    pub fn has_records(&self) -> bool {
+        match self.front() {
+            Some(front) => front.count > 0,
+            None => matches!(&self.ending, Some(ending) if ending.again.is_some()),
+        }
+    }
+
+    /// Returns whether it has a complete record that is no mark.
+    pub fn has_updates(&self) -> bool {
+        matches!(&self.check, Ok(check) if check.front.count > check.marks)
     }
 
     /// Returns whether it ends in a torn tail.
@@ -305,19 +345,6 @@ impl CheckedLog<'_> {
             },
             None => false,
         }
-    }
-
-    /// Returns whether it has complete records, behind its header or, without one, anywhere.
-    pub fn has_records(&self) -> bool {
-        match self.front() {
-            Some(front) => front.count > 0,
-            None => matches!(&self.ending, Some(ending) if ending.again.is_some()),
-        }
-    }
-
-    /// Returns whether it has a complete record that is no mark.
-    pub fn has_updates(&self) -> bool {
-        matches!(&self.check, Ok(check) if check.front.count > check.marks)
     }
 
     /// Returns its line. The late updates are known if there is a cutoff. Where the records end is told if it is known
@@ -364,6 +391,10 @@ impl CheckedLog<'_> {
             ],
             None => [None; 3],
         };
+        let copy = match self.copy {
+            Some(name) => Cell::Name(name),
+            None => Cell::Number(None),
+        };
         [
             ("log", Cell::Number(Some(number as u64))),
             ("file", Cell::Name(self.file.name)),
@@ -384,6 +415,7 @@ impl CheckedLog<'_> {
             ("worker", Cell::Number(worker)),
             ("segment", Cell::Number(place)),
             ("hole", Cell::Number(self.hole)),
+            ("copy", copy),
             ("reason", Cell::Reason(self.file.reason.as_ref())),
         ]
     }
@@ -391,10 +423,6 @@ impl CheckedLog<'_> {
 
 impl CheckedPart<'_> {
     /// Returns whether it is a part of this checkpoint and broken, but not by a resume that was stopped: that leaves its header.
-        let copy = match self.copy {
-            Some(name) => Cell::Name(name),
-            None => Cell::Number(None),
-        };
     pub fn is_damaged(&self, number: u32) -> bool {
         match self.state {
             PartState::Broken { checkpoint, .. } => {
@@ -415,7 +443,6 @@ impl CheckedPart<'_> {
                 let [place, parts] = [u64::from(part.place), u64::from(part.parts)];
                 let [begin, end, entries] = [part.begin, part.end, part.entries as u64];
                 let numbers = [
-            ("copy", copy),
                     u64::from(part.checkpoint),
                     place,
                     parts,

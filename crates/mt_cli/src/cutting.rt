@@ -40,7 +40,7 @@ pub fn cut<'a, R: Host, O: Write, E: Write>(
         return cut_part(rt.alloc(), file.into_all().map_err(unread)?, how, out, err);
     }
     let (head, first) = match how.header {
-        Some(head) => (head, 0),
+        Some(head) => (head, pass_header(&file.held, head, err)),
         None => match header_at(&file.held) {
             Some((head, rest)) => (head, file.held.len().saturating_sub(rest.len())),
             None if has_part_header(&file.held) => return Err(is_part(rt.alloc())),
@@ -50,7 +50,10 @@ pub fn cut<'a, R: Host, O: Write, E: Write>(
     file.pass(first);
     let log = LogIntake::new(rt.alloc(), file, head)?;
     let cutter = Cutter::new(rt.alloc(), head, how, out)?;
-    Ok(cutter.cut(log, path, is_verbose, err)?)
+    if cutter.cut(log, path, is_verbose, err)? || how.header.is_none() {
+        return Ok(());
+    }
+    Err(has_no_record(rt.alloc(), head.from))
 }
 
 /// Returns whether a file is a part, as its first bytes say.
@@ -68,6 +71,33 @@ fn is_part(alloc: Global) -> Halt<'static> {
         reason,
         "print it by records, or save its entries by cut --skip",
     )
+}
+
+/// Returns the number of bytes of a log's own header, if it is not lost, which another one replaces. Tells if that has a lower
+/// `from`. A write error is passed over.
+fn pass_header<E: Write>(bytes: &[u8], head: Head, err: &mut E) -> usize {
+    let Some((own, rest)) = header_at(bytes) else {
+        return 0;
+    };
+    if own.from > head.from {
+        let _ = writeln!(
+            err,
+            "mtrecover: its from was {}: updates below that are lost, unless other files have them",
+            own.from
+        );
+    }
+    bytes.len().saturating_sub(rest.len())
+}
+
+/// Returns that a log without a complete record gets no header, since that alone would hold the cutoff at its `from`.
+fn has_no_record(alloc: Global, from: u64) -> Halt<'static> {
+    let name = match format!(in alloc; "a log without a complete record: it would end at {from}") {
+        Ok(name) => name,
+        Err(refused) => return Halt::from(refused),
+    };
+    let reason = io::Error::new(ErrorKind::Unsupported, "the cutoff would not be above that");
+    let advice = "put a good copy back; else move it away, or end it by --end as check says";
+    Halt::stuck(alloc, "cut", name.as_str(), reason, advice)
 }
 
 /// Returns that a file of format 4 takes no other header, since each of its blocks begins with a checksum of its own one.
@@ -93,6 +123,8 @@ struct Cutter<'x, O> {
     feed: Option<LogFeed<KeptRecords>>,
     /// Whether the last bytes of the log so far are not printed.
     is_cut: bool,
+    /// Whether a record is printed.
+    has_records: bool,
 }
 
 impl<'x, O: Write> Cutter<'x, O> {
@@ -120,17 +152,19 @@ impl<'x, O: Write> Cutter<'x, O> {
             out,
             feed,
             is_cut: false,
+            has_records: false,
         })
     }
 
-    /// Prints the records of the log, and tells on `err` what is left out or skipped, and where a segment then ends.
+    /// Prints the records of the log, and tells on `err` what is left out or skipped, and where a segment then ends. Returns
+    /// whether it has some.
     fn cut<F: Read + Drop, E: Write>(
         self,
         log: LogIntake<F>,
         path: &str,
         is_verbose: bool,
         err: &mut E,
-    ) -> Result<(), Refusal<'static>> {
+    ) -> Result<bool, Refusal<'static>> {
         let mut cutter = self;
         let mut log = log;
         for _ in 0..u64::MAX {
@@ -159,7 +193,7 @@ impl<'x, O: Write> Cutter<'x, O> {
         if let Some(end) = cutter.end()? {
             end.tell(err);
         }
-        Ok(())
+        Ok(cutter.has_records)
     }
 
     /// Prints the records of a log of format 4, likewise.
@@ -215,6 +249,7 @@ impl<'x, O: Write> Cutter<'x, O> {
         if let Some(feed) = &mut self.feed {
             let _ = feed.feed(&record);
         }
+        self.has_records = true;
         self.out.write_all(&record)?;
         self.out.flush()?;
         // A write error is passed over.
@@ -238,6 +273,7 @@ impl<'x, O: Write> Cutter<'x, O> {
             }
         }
         self.is_cut = kept.len() < records.len();
+        self.has_records = self.has_records || !kept.is_empty();
         Ok(self.out.write_all(kept)?)
     }
 

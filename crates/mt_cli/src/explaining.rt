@@ -40,6 +40,9 @@ pub fn explain<E: Write>(refusal: &Refusal<'_>, names: &Names, err: &mut E) -> i
         }
         (Failure::Recovery(Fault::Source { .. } | Fault::PartSource { .. }), Some(reason))
             if reason.kind() == ErrorKind::FileTooLarge => "allow more by --file-bytes",
+        (Failure::Recovery(Fault::Source { .. } | Fault::PartSource { .. }), Some(reason))
+            if reason.kind() == ErrorKind::IsADirectory =>
+            "move the folder away, which has the name of a file",
         (Failure::Recovery(Fault::Header { .. }), Some(reason))
             if reason.kind() == ErrorKind::InvalidData => PUT_BACK,
         (Failure::Recovery(Fault::Header { .. }), _)

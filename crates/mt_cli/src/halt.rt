@@ -12,10 +12,6 @@ use mt_words::{Fault, Memory};
 use std::alloc::{AllocError, Global};
 use std::io::{self, ErrorKind, Write};
 
-/// What to try if more would be lost than a crash loses.
-const ON_LOSS: &str =
-    "put good copies back, or move away what is not of this store; --accept-loss goes on without what is lost";
-
 /// Why a command stopped.
 #[derive(Drop)]
 pub enum Halt<'a> {
@@ -98,8 +94,8 @@ impl<'a, R: Host> Run<'a, R> {
             Ok(None) => return 0,
             Ok(Some(caveat)) => {
                 let status = caveat.tell(err);
-                if self.folder.is_verbose && matches!(&caveat, Caveat::Loss(_)) {
-                    let _ = writeln!(err, "try: {ON_LOSS}");
+                if self.folder.is_verbose {
+                    caveat.tell_ways(err);
                 }
                 return status;
             }

@@ -33,6 +33,7 @@ mod fates;
 mod filing;
 mod grammar;
 mod halt;
+mod heads;
 mod hints;
 mod host;
 mod intake;

@@ -8,7 +8,7 @@ use mt_words::Memory;
 use std::alloc::Global;
 use std::fs::{self, File, OpenFile};
 use std::io::{self, ErrorKind, Read};
-use std::path::Path;
+use std::path::{Path, PathBuf};
 
 /// The bytes that the buffers of a rack have together, unless that makes them too long or too short.
 const RACK_BYTES: usize = 4_194_304;
@@ -125,7 +125,21 @@ impl<'a, R: Host> Run<'a, R> {
     /// Opens the file of this name.
     pub fn open(&self, name: &str) -> io::Result<R::File> {
         let path = Path::new(self.folder.path).join(self.rt.alloc(), name)?;
-        File::open(self.rt, &path)
+        match File::open(self.rt, &path) {
+            Err(error) if error.kind() == ErrorKind::NotFound => Err(self.not_found(&path, error)),
+            opened => opened,
+        }
+    }
+
+    /// Returns why nothing is found at a path: what the system says, unless a link is there.
+    fn not_found(&self, path: &PathBuf, error: io::Error) -> io::Error {
+        match fs::symlink_metadata(self.rt, path) {
+            Ok(_) => io::Error::new(
+                ErrorKind::NotFound,
+                "it links to a file that is not there, perhaps on a disk that is not mounted",
+            ),
+            Err(_) => error,
+        }
     }
 
     /// Reads the first pieces of the file of this name once more, at most this number of them. None: it is no regular file,
@@ -148,6 +162,15 @@ impl<'a, R: Host> Run<'a, R> {
 
     /// Returns whether the file of this name is of format 4, as its first bytes say. None: they are not known. Err: out of memory.
     pub fn is_sealed(&self, name: &str) -> Result<Option<bool>, Memory> {
+        match self.first_bytes(name, MAGIC_BYTES)? {
+            Some(magic) => Ok(Some(is_sealed(&magic))),
+            None => Ok(None),
+        }
+    }
+
+    /// Returns the first bytes of the file of this name, at most this number. None: it is no regular file, as a pipe, or cannot be
+    /// read. Err: out of memory.
+    pub fn first_bytes(&self, name: &str, most: u64) -> Result<Option<Vec<u8>>, Memory> {
         if self.size_of(name).is_none() {
             return Ok(None);
         }
@@ -162,15 +185,6 @@ impl<'a, R: Host> Run<'a, R> {
             Err(_) => Ok(None),
         }
     }
-        match self.first_bytes(name, MAGIC_BYTES)? {
-            Some(magic) => Ok(Some(is_sealed(&magic))),
-            None => Ok(None),
-        }
-    }
-
-    /// Returns the first bytes of the file of this name, at most this number. None: it is no regular file, as a pipe, or cannot be
-    /// read. Err: out of memory.
-    pub fn first_bytes(&self, name: &str, most: u64) -> Result<Option<Vec<u8>>, Memory> {
 
     /// Returns the size of the file of this name in bytes. None: the system does not tell, or it is no regular file.
     pub fn size_of(&self, name: &str) -> Option<u64> {
@@ -189,6 +203,9 @@ impl<'a, R: Host> Run<'a, R> {
             .ok()?;
         let metadata = match fs::metadata(self.rt, &path) {
             Ok(metadata) => metadata,
+            Err(error) if error.kind() == ErrorKind::NotFound => {
+                return Some(self.not_found(&path, error));
+            }
             Err(error) => return Some(error),
         };
         if metadata.is_dir() {

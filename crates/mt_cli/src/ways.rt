@@ -1,15 +1,19 @@
-//! What recovery would find once damaged logs are cut, or a log that holds the cutoff back ends with a mark.
+//! What recovery would find once damaged logs are cut, a log gets another header, or one that holds the cutoff back ends with a
+//! mark.
 use crate::checked::Checked;
 use crate::cutting::cut;
 use crate::halt::Halt;
+use crate::heads::heads_for;
 use crate::host::{Host, Run};
 use crate::progress::{Meter, Telling};
 use crate::request::Cut;
 use crate::row::{Cell, write_row};
+use mt_record::{Head, Segment};
 use mt_recover::{Failure, Refusal, Window, check_parts, fronts_of, start_of};
 use mt_scan::{Checkpoint, Slot};
 use mt_text::Value;
-use mt_words::Fault;
+use mt_words::{Fault, Format};
+use std::alloc::{AllocError, Global};
 use std::io::{self, Write};
 
 /// A way to cut logs.
@@ -18,6 +22,8 @@ struct Way {
     name: &'static str,
     /// Whether they go on after damage.
     is_skipping: bool,
+    /// The header that they get. None: they keep theirs.
+    header: Option<Head>,
     /// The timestamp of the mark that ends them. None: they get none.
     end: Option<u64>,
 }
@@ -27,11 +33,13 @@ const WAYS: [Way; 2] = [
     Way {
         name: "cut",
         is_skipping: false,
+        header: None,
         end: None,
     },
     Way {
         name: "skip",
         is_skipping: true,
+        header: None,
         end: None,
     },
 ];
@@ -45,10 +53,10 @@ struct Outlook {
 }
 
 impl<'a, R: Host> Run<'a, R> {
-    /// Prints a line for each way to cut all logs in which a record is damaged, or seems torn though records follow it, and if
-    /// updates are late, for the way to end the logs before them with a mark: what recovery would find then, or the fault that
-    /// it would name, which ends the line, since it has blanks. Reads the files again for each. Prints nothing if there is no
-    /// such log, or one of the files cannot be read again.
+    /// Prints a line for each way to cut all logs in which a record is damaged, or seems torn though records or segments follow
+    /// it; if updates are late, for the way to end the logs before them with a mark; and for each header that a log may get.
+    /// It has what recovery would find then, or the fault that it would name, which ends the line, since it has blanks. Reads the
+    /// files again for each. Prints nothing if there is no such log, or one of the files cannot be read again.
     pub fn write_ways<W: Write>(
         &self,
         checked: &Checked<'_>,
@@ -57,7 +65,7 @@ impl<'a, R: Host> Run<'a, R> {
     ) -> Result<(), Refusal<'static>> {
         let mut damaged = Vec::new(self.rt.alloc());
         for (number, log) in checked.logs.iter().enumerate() {
-            if log.is_damaged() {
+            if log.is_damaged() || checked.is_torn_segment(number) {
                 damaged.push(number)?;
             }
         }
@@ -69,6 +77,7 @@ impl<'a, R: Host> Run<'a, R> {
                 self.write_way(way, &damaged, is_json, out)?;
             }
         }
+        self.write_headers(checked, is_json, out)?;
         let early = checked.early(self.rt.alloc())?;
         if early.is_empty() {
             return Ok(());
@@ -76,9 +85,41 @@ impl<'a, R: Host> Run<'a, R> {
         let way = Way {
             name: "end",
             is_skipping: true,
+            header: None,
             end: Some(checked.last_below_end()),
         };
         self.write_way(&way, &early, is_json, out)
+    }
+
+    /// Prints a line for each header that the log may get which recovery names for its header or for a gap before it. A log
+    /// without a complete record then ends with a mark. A log of format 4 gets no header.
+    fn write_headers<W: Write>(
+        &self,
+        checked: &Checked<'_>,
+        is_json: bool,
+        out: &mut W,
+    ) -> Result<(), Refusal<'static>> {
+        let log = match checked.start {
+            Err(Fault::Header { log } | Fault::Gap { log }) => log,
+            _ => return Ok(()),
+        };
+        let Some(found) = checked.logs.get(log) else {
+            return Ok(());
+        };
+        if found.is_sealed != Some(false) {
+            return Ok(());
+        }
+        for head in &heads_for(self.rt.alloc(), checked, found)? {
+            let end = head.from.saturating_add(1).max(checked.last_below_end());
+            let way = Way {
+                name: "header",
+                is_skipping: true,
+                header: Some(*head),
+                end: (!found.has_records()).then_some(end),
+            };
+            self.write_way(&way, &[log], is_json, out)?;
+        }
+        Ok(())
     }
 
     /// Prints the line of a way to cut these logs.
@@ -90,7 +131,11 @@ impl<'a, R: Host> Run<'a, R> {
         out: &mut W,
     ) -> Result<(), Refusal<'static>> {
         let outlook = self.look_ahead(logs, way);
-        write_outlook(way, logs, &outlook, is_json, out)
+        let header = match way.header {
+            Some(head) => Some(words_of(self.rt.alloc(), head)?),
+            None => None,
+        };
+        write_outlook(way, logs, &header, &outlook, is_json, out)
     }
 
     /// Returns what recovery would find if these logs were cut, or the fault that it would name.
@@ -151,7 +196,7 @@ impl<'a, R: Host> Run<'a, R> {
         let path = format!(in self.rt.alloc(); "{}/{name}", self.folder.path)?;
         let how = Cut {
             is_skipping: way.is_skipping,
-            header: None,
+            header: way.header,
             below: None,
             end: way.end,
         };
@@ -182,17 +227,23 @@ impl<'a, R: Host> Run<'a, R> {
 fn write_outlook<'x, W: Write>(
     way: &Way,
     logs: &'x [usize],
+    header: &'x Option<String>,
     outlook: &'x Result<Outlook, Refusal<'x>>,
     is_json: bool,
     out: &mut W,
 ) -> Result<(), Refusal<'static>> {
     let (name, logs) = (Cell::Word(way.name), Cell::Value(Value::Positions(logs)));
     let end = Cell::Number(way.end);
+    let header = match header {
+        Some(header) => Cell::Word(header.as_str()),
+        None => Cell::Number(None),
+    };
     match outlook {
         Ok(outlook) => {
             let row = [
                 ("way", name),
                 ("logs", logs),
+                ("header", header),
                 ("end", end),
                 ("cutoff", Cell::Number(Some(outlook.cutoff))),
                 ("late", Cell::Value(Value::Number(outlook.late))),
@@ -206,12 +257,23 @@ fn write_outlook<'x, W: Write>(
                 let row = [
                     ("way", name),
                     ("logs", logs),
+                    ("header", header),
                     ("end", end),
                     ("fault", Cell::Failure(failure)),
                 ];
                 Ok(write_row(&row, is_json, out)?)
             }
         },
+    }
+}
+
+/// Returns the words of a header, as `cut --header` takes them. Err: out of memory.
+fn words_of(alloc: Global, head: Head) -> Result<String, AllocError> {
+    let from = head.from;
+    match head.segment {
+        Some(Segment { worker, number }) => format!(in alloc; "3:{from}:{worker}:{number}"),
+        None if head.format == Format::One => format!(in alloc; "1:{from}"),
+        None => format!(in alloc; "2:{from}"),
     }
 }
 
