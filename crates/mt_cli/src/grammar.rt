@@ -119,6 +119,9 @@ pub const STRICT_SHELL: Argument =
 pub const STATUS: Argument =
     argument! { "status", Flag, "Print a line status=N after each answer" };
 
+pub const ERRORS: Argument =
+    argument! { "errors", Flag, "Print errors as lines of the answers, and not on standard error" };
+
 pub const STRICT_RESUME: Argument = argument! { "strict", Flag,
     "Change nothing, and end with status 4, if anything is torn, late, skipped or nameless, or there is a hole between segments" };
 
@@ -225,7 +228,7 @@ const QUESTIONS: &[Subcommand] = subcommands! {
 
 /// The other subcommands, which follow them in the help.
 const OTHERS: &[Subcommand] = subcommands! {
-    "shell", [FOLDER, WORKERS, FILES, FILE_BYTES, VERBOSE, PROGRESS, PIECES, STRICT_SHELL, STATUS],
+    "shell", [FOLDER, WORKERS, FILES, FILE_BYTES, VERBOSE, PROGRESS, PIECES, STRICT_SHELL, STATUS, ERRORS],
         "Recovers once, then answers lines of standard input: report, get, history, range or dump, without DIR",
         "Example: printf 'get 666967\\ndump --json\\n' | mtrecover shell examples/store";
     "audit", [FOLDER, WORKERS, FILES, FILE_BYTES, VERBOSE, PROGRESS],

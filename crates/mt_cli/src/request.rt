@@ -111,6 +111,8 @@ pub struct Shell {
     pub is_strict: bool,
     /// Whether a line with the status follows each answer.
     pub has_status: bool,
+    /// Whether errors are lines of the answers.
+    pub has_errors: bool,
 }
 
 /// How to resume the files of a folder.

@@ -45,6 +45,11 @@ impl<'a, R: Host> Run<'a, R> {
     }
 }
 
+/// Returns whether a line ends the shell.
+fn ends_shell(line: &[u8]) -> bool {
+    line == b"quit".as_slice() || line == b"exit".as_slice()
+}
+
 /// The output failed, which was told and ends the shell with status 3.
 #[derive(Drop)]
 struct OutputFailed;
@@ -87,11 +92,11 @@ impl<'a, 'r, R: Host> Session<'a, 'r, R> {
             }
             let line = match next_line(&mut lines, &mut text) {
                 Ok(Line::End) => break,
-                Ok(_) if text.as_slice() == b"quit".as_slice() => break,
+                Ok(_) if ends_shell(&text) => break,
                 Ok(line) => line,
                 Err(error) => return Err(self.unread(error)),
             };
-            let Ok(status) = self.answer_line(line, &text, out, err) else {
+            let Ok(status) = self.answer_and_end(line, &text, out, err) else {
                 return Ok(3);
             };
             if first == 0 && self.how.is_strict {
@@ -119,7 +124,35 @@ impl<'a, 'r, R: Host> Session<'a, 'r, R> {
         )
     }
 
-    /// Answers a line, ends the answer with the line of its status, if that is wanted, and returns it. A blank line has 0.
+    /// Answers a line, and ends the answer with what was told of it, if that is wanted, and with the line of its status, if that
+    /// is. Returns the status.
+    fn answer_and_end<O: Write, E: Write + Send>(
+        &self,
+        line: Line,
+        text: &[u8],
+        out: &mut O,
+        err: &mut E,
+    ) -> Result<u8, OutputFailed>
+        ensures { IfOk result (λ status. status ≤ 5) }
+    {
+        if !self.how.has_errors {
+            let status = self.answer_line(line, text, out, err)?;
+            return self.end_answer(status, out, err);
+        }
+        let mut told: Vec<u8> = Vec::new(self.run.rt.alloc());
+        let answered = self.answer_line(line, text, out, &mut told);
+        if answered.is_err() {
+            // A write error is passed over.
+            let _ = err.write_all(&told);
+        }
+        let status = answered?;
+        if let Err(error) = out.write_all(&told) {
+            return Err(self.fail(&Refusal::from(error), err));
+        }
+        self.end_answer(status, out, err)
+    }
+
+    /// Answers a line, and returns its status. A blank line has 0.
     fn answer_line<O: Write, E: Write + Send>(
         &self,
         line: Line,
@@ -131,22 +164,21 @@ impl<'a, 'r, R: Host> Session<'a, 'r, R> {
     {
         let is_whole = matches!(&line, Line::Whole);
         if is_whole && self.answer_get(text, out, err)? {
-            return self.end_answer(0, out, err);
+            return Ok(0);
         }
         // What is told on `err` follows the answers before.
         self.flush(out, err)?;
         if !is_whole {
-            return self.end_answer(self.tell_too_long(err), out, err);
+            return Ok(self.tell_too_long(err));
         }
         let Ok(text) = str::from_utf8(text) else {
-            return self.end_answer(self.tell(&Refusal::from(Failure::Words), err), out, err);
+            return Ok(self.tell(&Refusal::from(Failure::Words), err));
         };
-        let status = match words_of(self.run.rt.alloc(), text) {
-            Ok(words) if words.is_empty() => return Ok(0),
-            Ok(words) => self.answer(&words, out, err)?,
-            Err(_) => self.tell(&Refusal::from(Fault::Memory), err),
-        };
-        self.end_answer(status, out, err)
+        match words_of(self.run.rt.alloc(), text) {
+            Ok(words) if words.is_empty() => Ok(0),
+            Ok(words) => self.answer(&words, out, err),
+            Err(_) => Ok(self.tell(&Refusal::from(Fault::Memory), err)),
+        }
     }
 
     /// Prints the pair of a key, or that it is absent, if that is all that the line asks for, and returns whether it is. Does
@@ -229,7 +261,10 @@ impl<'a, 'r, R: Host> Session<'a, 'r, R> {
     ) -> Result<Option<Caveat>, Refusal<'a>> {
         let caveat = match question {
             Question::Store(query) => print_answer(self.recovered, query, out)?,
-            // The files are read again.
+            // The files are read again. How far that has come is no error.
+            Question::History(how) if self.how.has_errors => {
+                self.run.trace(how, out, &mut io::sink())?
+            }
             Question::History(how) => self.run.trace(how, out, err)?,
         };
         out.flush()?;

@@ -3,9 +3,9 @@ ghost use Rattle.std.specs.Prelude.{◌≤◌, IfErr};
 
 use crate::explaining::{or_tell, tell};
 use crate::grammar::{
-    ACCEPT_LOSS, AT, BELOW, CHART, COLUMNS, COUNT, DRY_RUN, END, EXISTS, FILE_BYTES, FILES, FOLDER,
-    FROM, HEADER, JSON, KEY, LIMIT, LOG_OR_PART, MAX_LATE, MOST_TEXT, NO_LOGS, NUMBER, OUT, OUTPUT,
-    PART_LIMIT, PIECES, PREFIX, PROGRESS, RECORD_KEY, SKIP, STATUS, STRICT, STRICT_RESUME,
+    ACCEPT_LOSS, AT, BELOW, CHART, COLUMNS, COUNT, DRY_RUN, END, ERRORS, EXISTS, FILE_BYTES, FILES,
+    FOLDER, FROM, HEADER, JSON, KEY, LIMIT, LOG_OR_PART, MAX_LATE, MOST_TEXT, NO_LOGS, NUMBER, OUT,
+    OUTPUT, PART_LIMIT, PIECES, PREFIX, PROGRESS, RECORD_KEY, SKIP, STATUS, STRICT, STRICT_RESUME,
     STRICT_SHELL, TEXT, TO, VERBOSE, WIDTH, WORKERS, WRITERS, grammar,
 };
 use crate::listing::Names;
@@ -164,6 +164,7 @@ fn budget(matches: &ArgMatches<'_>) -> Result<Budget, Refusal<'static>> {
     Ok(Budget {
         most_late: found(matches.get_one(MAX_LATE.name))?,
         accepts_loss: matches.get_flag(ACCEPT_LOSS.name),
+        has_errors: matches.get_flag(ERRORS.name),
     })
 }
 
