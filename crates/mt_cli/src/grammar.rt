@@ -82,7 +82,7 @@ pub const KEY: Argument =
 pub const COUNT: Argument =
     argument! { "COUNT", Number(4_294_967_295), "Print at most this many keys" };
 
-pub const SHELL: Argument = argument! { "SHELL", OneOf(&["bash"]), "The shell" };
+pub const SHELL: Argument = argument! { "SHELL", OneOf(&["bash", "zsh", "fish"]), "The shell" };
 
 pub const WORKERS: Argument =
     argument! { "workers", UpTo("N", MOST_WORKERS as u64, "4"), "Number of threads: 1 to 64" };

@@ -10,12 +10,17 @@ use mt_recover::Refusal;
 use std::alloc::Global;
 use std::io::{BufWriter, Write};
 
-/// Prints the manual page, or else the completions for bash, and returns the exit status. On a failure, prints its line on
+/// Prints the completions for a shell, or else the manual page, and returns the exit status. On a failure, prints its line on
 /// `err`.
-pub fn tell_text<O: Write, E: Write>(alloc: Global, is_manual: bool, out: &mut O, err: &mut E) -> u8
+pub fn tell_text<O: Write, E: Write>(
+    alloc: Global,
+    shell: Option<&str>,
+    out: &mut O,
+    err: &mut E,
+) -> u8
     ensures { result ≤ 3 }
 {
-    match write_text(alloc, is_manual, out) {
+    match write_text(alloc, shell, out) {
         Ok(()) => 0,
         Err(refusal) => tell(&refusal, None, err),
     }
@@ -24,15 +29,14 @@ pub fn tell_text<O: Write, E: Write>(alloc: Global, is_manual: bool, out: &mut O
 /// Prints a text, through a buffer.
 fn write_text<O: Write>(
     alloc: Global,
-    is_manual: bool,
+    shell: Option<&str>,
     out: &mut O,
 ) -> Result<(), Refusal<'static>> {
     let program = grammar(alloc)?;
     let mut out = BufWriter::with_capacity(alloc, PRINTED_AT_ONCE, out)?;
-    if is_manual {
-        write_manual(alloc, &program, STATUSES, &mut out)?;
-    } else {
-        write_completions(&program, &mut out)?;
+    match shell {
+        Some(shell) => write_completions(&program, shell, &mut out)?,
+        None => write_manual(alloc, &program, STATUSES, &mut out)?,
     }
     Ok(out.flush()?)
 }

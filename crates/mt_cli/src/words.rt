@@ -5,8 +5,8 @@ use crate::explaining::{or_tell, tell};
 use crate::grammar::{
     ACCEPT_LOSS, AT, BELOW, CHART, COLUMNS, COUNT, DRY_RUN, END, ERRORS, EXISTS, FILE_BYTES, FILES,
     FOLDER, FROM, HEADER, JSON, KEY, LIMIT, LOG_OR_PART, MAX_LATE, MOST_TEXT, NO_LOGS, NUMBER, OUT,
-    OUTPUT, PART_LIMIT, PIECES, PREFIX, PROGRESS, RECORD_KEY, SKIP, STATUS, STRICT, STRICT_RESUME,
-    STRICT_SHELL, TEXT, TO, VERBOSE, WIDTH, WORKERS, WRITERS, grammar,
+    OUTPUT, PART_LIMIT, PIECES, PREFIX, PROGRESS, RECORD_KEY, SHELL, SKIP, STATUS, STRICT,
+    STRICT_RESUME, STRICT_SHELL, TEXT, TO, VERBOSE, WIDTH, WORKERS, WRITERS, grammar,
 };
 use crate::listing::Names;
 use crate::loss::Budget;
@@ -41,16 +41,24 @@ pub fn command<'a, R: AllocGlobal, O: Write, E: Write>(
     // The parser has no options for `help`.
     match words {
         [help, man] if help.as_str() == "help" && man.as_str() == "--man" => {
-            return Err(tell_text(rt.alloc(), true, out, err));
+            return Err(tell_text(rt.alloc(), None, out, err));
         }
         _ => {}
     }
     match parse(rt.alloc(), words) {
-        Ok(matches) if matches.subcommand_name() == Some("completions") => {
-            Err(tell_text(rt.alloc(), false, out, err))
-        }
-        Ok(matches) => read_or_tell(rt.alloc(), &matches, at_terminal, err),
+        Ok(matches) => match shell_of(&matches) {
+            Some(shell) => Err(tell_text(rt.alloc(), Some(shell), out, err)),
+            None => read_or_tell(rt.alloc(), &matches, at_terminal, err),
+        },
         Err(error) => Err(tell_error(rt.alloc(), &error, false, None, out, err)),
+    }
+}
+
+/// Returns the shell for which completions are to be printed, if they are.
+fn shell_of<'a>(matches: &ArgMatches<'a>) -> Option<&'a str> {
+    match matches.subcommand() {
+        Some(("completions", matches)) => matches.get_str(SHELL.name),
+        _ => None,
     }
 }
 
