@@ -16,12 +16,12 @@ pub record IsCheckpointOf (wanted limit : ℕ) (recovered : Outcome) (checkpoint
   pub within : ArePartsWithin limit checkpoint
 
 -- a number after its name: the first of a line, or not
-abbrev pub number_text : Bool → List ℕ × ℕ → List ℕ
-number_text is_first (name, n) = name_text false is_first name ++ decimal n
+abbrev pub number_text : Bool → Bool → List ℕ × ℕ → List ℕ
+number_text is_json is_first (name, n) = name_text is_json is_first name ++ decimal n
 
 -- the line of a checkpoint: its number, how many parts it has, and what the report of its store says; its log has a mark above the cutoff
-abbrev pub written_text : ℕ → ℕ → Report → List ℕ
-written_text number parts report =
-    (number_text true (codes "checkpoint", number)
-    ++ flat_map (number_text false) ((codes "parts", parts) ∷ (codes "cutoff", report.cutoff) ∷ (codes "last", report.cutoff + 1) ∷ (codes "version", report.version) ∷ []))
-    ++ end_text false
+abbrev pub written_text : Bool → ℕ → ℕ → Report → List ℕ
+written_text is_json number parts report =
+    (number_text is_json true (codes "checkpoint", number)
+    ++ flat_map (number_text is_json false) ((codes "parts", parts) ∷ (codes "cutoff", report.cutoff) ∷ (codes "last", report.cutoff + 1) ∷ (codes "version", report.version) ∷ []))
+    ++ end_text is_json

@@ -12,13 +12,15 @@ use crate::halt::Halt;
 use crate::host::{Host, Run};
 use crate::progress::count_inputs;
 use crate::request::{Question, Range, StoreQuery};
+use crate::row::{Cell, write_row};
 use mt_recover::{
     Clash, Cutting, Failure, Recovered, Refusal, Report, Store, audit, recover, write_dump,
 };
-use mt_text::{Fields, Form, Lines, Printer, write_hex, write_pair};
+use mt_text::{Fields, Form, Lines, Printer, Value, write_hex, write_pair};
 use mt_words::Key;
+use std::alloc::Global;
 use std::io::{self, BufWriter, Write};
-use std::mem;
+use std::{mem, str};
 
 /// The size of the output buffer in bytes.
 pub const PRINTED_AT_ONCE: usize = 65_536;
@@ -65,9 +67,9 @@ impl<'a, R: Host> Run<'a, R> {
         &self,
         query: &StoreQuery,
         caveat: Option<Caveat>,
+        writers: usize,
         err: &mut E,
     ) -> Result<Option<Caveat>, Refusal<'static>> {
-        writers: usize,
         match query {
             StoreQuery::Report {
                 is_strict: true,
@@ -95,9 +97,10 @@ impl<'a, R: Host> Run<'a, R> {
         Ok(recovered?)
     }
 
-    /// Audits the logs, and prints the line of each clash, through a buffer.
+    /// Audits the logs, and prints the line of each clash, or its JSON object, through a buffer.
     pub fn audit<O: Write, E: Write + Send>(
         &self,
+        is_json: bool,
         out: &mut O,
         err: &mut E,
     ) -> Result<Option<Caveat>, Halt<'a>> {
@@ -110,7 +113,11 @@ impl<'a, R: Host> Run<'a, R> {
         let clashes = clashes?;
         let mut out = BufWriter::with_capacity(self.rt.alloc(), PRINTED_AT_ONCE, out)?;
         for clash in &clashes {
-            write_clash(clash, &mut out)?;
+            if is_json {
+                write_object(self.rt.alloc(), clash, &mut out)?;
+            } else {
+                write_clash(clash, &mut out)?;
+            }
         }
         out.flush()?;
         Ok(None)
@@ -126,6 +133,41 @@ fn write_clash<O: Write>(clash: &Clash, out: &mut O) -> io::Result<()> {
         write!(out, " {}/{}", place.log, place.nth)?;
     }
     out.write_all(b"\n")
+}
+
+/// Prints a clash as a JSON object: the key, the version, and of each record its log and its number there.
+fn write_object<O: Write>(
+    alloc: Global,
+    clash: &Clash,
+    out: &mut O,
+) -> Result<(), Refusal<'static>> {
+    let mut key = Vec::new(alloc);
+    write_hex(clash.key.as_bytes(), &mut key)?;
+    let mut logs = Vec::with_capacity(alloc, clash.places.len())?;
+    let mut records = Vec::with_capacity(alloc, clash.places.len())?;
+    for place in &clash.places {
+        logs.push(place.log)?;
+        records.push(place.nth as usize)?;
+    }
+    let key = str::from_utf8(&key).unwrap_or("");
+    Ok(write_places(key, clash.version, &logs, &records, out)?)
+}
+
+/// Prints the JSON object of a clash. Err: write error.
+fn write_places<'x, O: Write>(
+    key: &'x str,
+    version: u64,
+    logs: &'x [usize],
+    records: &'x [usize],
+    out: &mut O,
+) -> io::Result<()> {
+    let row = [
+        ("key", Cell::Word(key)),
+        ("version", Cell::Number(Some(version))),
+        ("logs", Cell::Value(Value::Positions(logs))),
+        ("records", Cell::Value(Value::Positions(records))),
+    ];
+    write_row(&row, true, out)
 }
 
 /// Prints what the query asks for of a recovered store. Does not flush the output.

@@ -55,7 +55,7 @@ impl<'a, R: Host> Run<'a, R> {
             return Err(Halt::from(PlanFault::Parts));
         }
         self.write_all(&looks, loss.as_ref(), new, &checkpoint)?;
-        write_line(new.number, checkpoint.parts(), recovered.report(), out)?;
+        write_line(new, checkpoint.parts(), recovered.report(), out)?;
         out.flush()?;
         self.folder.tell_losses(Losses::of(recovered.report()), err);
         mem::forget(checkpoint);
@@ -119,18 +119,23 @@ fn plan_of<'r>(
 }
 
 /// Prints the line of a checkpoint that was written. Its log has a mark beyond the cutoff. Err: write error.
-fn write_line<O: Write>(number: u32, parts: u16, report: &Report, out: &mut O) -> io::Result<()>
+fn write_line<O: Write>(
+    new: &NewFolder<'_>,
+    parts: u16,
+    report: &Report,
+    out: &mut O,
+) -> io::Result<()>
     requires { report.now.cutoff < 2 ^ 64 - 1 }
-    ensures { OnOk result (Appends (O.contents out.old) (O.contents out.new) (written_text number parts report.now)) }
+    ensures { OnOk result (Appends (O.contents out.old) (O.contents out.new) (written_text new.now.is_json new.now.number parts report.now)) }
 {
     let row = [
-        ("checkpoint", Cell::Number(Some(u64::from(number)))),
+        ("checkpoint", Cell::Number(Some(u64::from(new.number)))),
         ("parts", Cell::Number(Some(u64::from(parts)))),
         ("cutoff", Cell::Number(Some(report.cutoff))),
         ("last", Cell::Number(Some(report.cutoff + 1))),
         ("version", Cell::Number(Some(report.version))),
     ];
-    write_row(&row, false, out)
+    write_row(&row, new.is_json, out)
 }
 
 /// Locks the folder of this path until what is returned is dropped.

@@ -231,7 +231,7 @@ const OTHERS: &[Subcommand] = subcommands! {
     "shell", [FOLDER, WORKERS, FILES, FILE_BYTES, VERBOSE, PROGRESS, PIECES, STRICT_SHELL, STATUS, ERRORS],
         "Recovers once, then answers lines of standard input: report, get, history, range or dump, without DIR",
         "Example: printf 'get 666967\\ndump --json\\n' | mtrecover shell examples/store";
-    "audit", [FOLDER, WORKERS, FILES, FILE_BYTES, VERBOSE, PROGRESS],
+    "audit", [FOLDER, WORKERS, FILES, FILE_BYTES, VERBOSE, PROGRESS, JSON],
         "Prints each version of a key that two or more surviving log updates share, with their records",
         "Example: mtrecover audit examples/store";
     "check", [FOLDER, WORKERS, FILES, FILE_BYTES, VERBOSE, PROGRESS, WRITERS, JSON, CHART, WIDTH],
@@ -240,7 +240,7 @@ const OTHERS: &[Subcommand] = subcommands! {
     "resume", [FOLDER, WORKERS, FILES, FILE_BYTES, VERBOSE, PROGRESS, WRITERS, JSON, STRICT_RESUME, DRY_RUN, NO_LOGS, MAX_LATE, ACCEPT_LOSS],
         "Makes the logs and parts those with which a server goes on after a crash; the store stays the same. The server must be down",
         "Example: mtrecover resume DIR --dry-run";
-    "checkpoint", [FOLDER, WORKERS, FILES, FILE_BYTES, VERBOSE, PROGRESS, WRITERS, PIECES, OUT, NUMBER, PART_LIMIT, MAX_LATE, ACCEPT_LOSS],
+    "checkpoint", [FOLDER, WORKERS, FILES, FILE_BYTES, VERBOSE, PROGRESS, WRITERS, JSON, PIECES, OUT, NUMBER, PART_LIMIT, MAX_LATE, ACCEPT_LOSS],
         "Writes the store as a checkpoint and a log into a new folder. The server must be down",
         "Example: mtrecover checkpoint examples/store fresh";
     "forget", [FOLDER, WORKERS, FILES, FILE_BYTES, VERBOSE, PROGRESS],

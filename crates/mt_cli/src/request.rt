@@ -19,7 +19,7 @@ pub enum FolderCommand<'a> {
     /// Answers a question.
     Question(Question),
     /// Prints the clashes of the logs, which take no store.
-    Audit,
+    Audit { is_json: bool },
     /// Answers questions over the store, which are lines of the input.
     Shell(Shell),
     /// Prints what is in each file, for which files are read twice.
@@ -139,6 +139,8 @@ pub struct NewFolder<'a> {
     pub number: u32,
     /// The most bytes of the text of a part that has several entries.
     pub limit: usize,
+    /// Whether JSON is printed.
+    pub is_json: bool,
     /// What the store may have lost.
     pub budget: Budget,
 }

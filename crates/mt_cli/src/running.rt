@@ -104,7 +104,7 @@ pub fn run_words<R: Host, I: Read + IsTerminal, O: Write, E: Write + Send>(
     };
     let outcome = match task {
         FolderCommand::Question(question) => run.answer(question, out, err),
-        FolderCommand::Audit => run.audit(out, err),
+        FolderCommand::Audit { is_json } => run.audit(*is_json, out, err),
         FolderCommand::Check(form) => run.check(*form, out, err),
         FolderCommand::Resume(how) => run.resume(*how, out, err),
         FolderCommand::Checkpoint(new) => run.checkpoint(new, out, err),

@@ -136,6 +136,7 @@ fn of_folder<'a>(
             Telling::Never
         },
         pieces: matches.get_one(PIECES.name).and_then(Pieces::new),
+        writers: matches.get_one(WRITERS.name),
     };
     let command = match name {
         "check" => FolderCommand::Check(check_form(matches)),
@@ -144,7 +145,6 @@ fn of_folder<'a>(
             is_strict: matches.get_flag(STRICT_RESUME.name),
             is_json: matches.get_flag(JSON.name),
             has_no_logs: matches.get_flag(NO_LOGS.name),
-            writers: matches.get_one(WRITERS.name),
             budget: budget(matches)?,
         }),
         "checkpoint" => {
@@ -153,14 +153,18 @@ fn of_folder<'a>(
                 path: found(matches.get_str(OUT.name))?,
                 number: found(matches.get_one(NUMBER.name))?,
                 limit: limit.min(MOST_TEXT) as usize,
+                is_json: matches.get_flag(JSON.name),
                 budget: budget(matches)?,
             })
         }
-        "audit" => FolderCommand::Audit,
+        "audit" => FolderCommand::Audit {
+            is_json: matches.get_flag(JSON.name),
+        },
         "forget" => FolderCommand::Forget,
         "shell" => FolderCommand::Shell(Shell {
             is_strict: matches.get_flag(STRICT_SHELL.name),
             has_status: matches.get_flag(STATUS.name),
+            has_errors: matches.get_flag(ERRORS.name),
         }),
         _ => FolderCommand::Question(question_of(alloc, name, matches)?),
     };
@@ -172,7 +176,6 @@ fn budget(matches: &ArgMatches<'_>) -> Result<Budget, Refusal<'static>> {
     Ok(Budget {
         most_late: found(matches.get_one(MAX_LATE.name))?,
         accepts_loss: matches.get_flag(ACCEPT_LOSS.name),
-        has_errors: matches.get_flag(ERRORS.name),
     })
 }
 
