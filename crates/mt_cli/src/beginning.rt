@@ -3,6 +3,7 @@ use crate::caveat::{Caveat, Losses};
 use crate::cutting::last_of;
 use crate::halt::Halt;
 use crate::host::{Host, Run};
+use crate::loss::Loss;
 use crate::request::Resume;
 use crate::row::{Cell, Field, write_row};
 use crate::saving::Site;
@@ -12,7 +13,9 @@ use mt_checkpoint::PlanFault;
 use mt_record::{Head, encode_record, header_at, open_file, records_below};
 use mt_recover::{Failure, Refusal, check_parts};
 use mt_scan::{Checkpoint, Choice, choose};
+use mt_text::Shown;
 use mt_words::{Fault, Record};
+use std::alloc::{AllocError, Global};
 use std::io::{self, ErrorKind, Write};
 
 /// A log of a header and a mark that is to be written, of format 4.
@@ -59,6 +62,17 @@ impl NewLog {
     pub fn write<R: Host>(&self, site: &Site<'_, R>, model: &str) -> Result<(), Halt<'static>> {
         site.write(self.name.as_str(), model, &self.bytes)?;
         site.sync()
+    }
+
+    /// Returns what is lost if it is begun without other logs, over a checkpoint that begins at this timestamp. Err: out of memory.
+    fn loss(&self, alloc: Global, begin: u64) -> Result<Loss, AllocError> {
+        let mut lines = Vec::new(alloc);
+        let name = Shown(self.name.as_str());
+        let line = format!(in alloc;
+            "{name}: begun without logs: what they had from {begin} on is lost"
+        )?;
+        lines.push(line)?;
+        Ok(Loss(lines))
     }
 
     /// Returns its line.
@@ -118,6 +132,8 @@ impl<'a, R: Host> Run<'a, R> {
                 site.sync_file(name.as_str())?;
             }
             site.sync()?;
+            let loss = log.loss(self.rt.alloc(), checkpoint.begin)?;
+            site.note(&loss, model.as_str())?;
             log.write(site, model.as_str())?;
         }
         write_row(&log.row(0), how.is_json, out)?;
