@@ -263,7 +263,7 @@ const OTHERS: &[Subcommand] = subcommands! {
 /// Returns the grammar of the arguments that the program takes. Err: out of memory.
 pub fn grammar<'a>(alloc: Global) -> Result<Command<'a>, AllocError> {
     let mut program = Command::new(alloc, "mtrecover")
-        .version("1.0 (file formats 1 to 4)")
+        .version("3.0.0 (file formats 1 to 4)")
         .about(
             "Recovers the store of a folder of update logs and checkpoint parts and answers queries on it; audits, checks, resumes, prints and cuts logs",
         )

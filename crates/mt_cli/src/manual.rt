@@ -19,10 +19,11 @@ Logs are the files of a folder whose names end in .mtl, parts of checkpoints tho
 .B check
 has a section in the RUNBOOK, which tells how to go on after damage. Only
 .BR resume ,
-.B checkpoint
-and
+.BR checkpoint ,
 .B cut
-write files; the first two lock the folder.
+and
+.B forget
+change files; the first two lock the folder.
 ";
 
 /// What comes after the exit statuses.
