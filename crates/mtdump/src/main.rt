@@ -24,7 +24,7 @@ Every other argument is a file name: write ./--help for a file of that name.
 Example: mtdump examples/a.mtl examples/b.mtl
 ";
 
-const VERSION: &str = "mtdump 1.0 (file formats 1 to 4)\n";
+const VERSION: &str = "mtdump 3.0.0 (file formats 1 to 4)\n";
 
 fn main(rt: HostRuntime) -> ExitCode {
     let status = match run(&rt) {
