@@ -16,13 +16,22 @@
  * - A pointer may be null if its length is 0.
  * - A place is moved and never copied, one call at a time is given it, and mtr_free empties it at the end.
  * - A task goes back to the job that handed it out.
- * - The processor has x86-64-v2. */
+ * - The processor has x86-64-v2.
+ *
+ * Versions: MTR_VERSION_MAJOR, MINOR and PATCH are those of this header, and of all that is released with it. A program that
+ * was built with this header runs with each library of this MAJOR, and of this MINOR or a higher one. A MINOR may add
+ * functions, constants and kinds of faults. It changes and removes none, and no struct grows: that takes a new MAJOR, and a
+ * new soname of the shared library, now libmtrecover.so.1. */
 #ifndef MTRECOVER_H
 #define MTRECOVER_H
 
 #include <stdbool.h>
 #include <stddef.h>
 #include <stdint.h>
+
+#define MTR_VERSION_MAJOR 3
+#define MTR_VERSION_MINOR 0
+#define MTR_VERSION_PATCH 0
 
 #ifdef __cplusplus
 extern "C" {
@@ -207,7 +216,7 @@ uint32_t mtr_fault_text(const mtr_fault *fault, uint8_t *out, size_t room, size_
 
 /* What a library is. */
 typedef struct mtr_versions {
-    uint32_t library;     /* its version: 3 */
+    uint32_t library;     /* its MTR_VERSION_MAJOR: 3 */
     uint32_t log_format;  /* the greatest format of logs that it knows: 4 */
     uint32_t part_format; /* the greatest format of parts that it knows: 4 */
 } mtr_versions;
