@@ -239,9 +239,10 @@ typedef struct mtr_column {
  * WRONG: the place holds no keeper, or there is no log of this number in the state that the call needs. From the first
  * mtr_keeper_failed on each call that would change the keeper answers FAILED, or ABSENT.
  *
- * Puts the keeper of an empty folder into the empty place. It has one log, of number 0, that is to be created, and until
- * then no other. Logs are of format 4. `salt` is a random number: the first file has it, and each further one the next
- * number, so that bytes of other files that a crash leaves in a file are known. WRONG: the place is not empty. */
+ * Puts the keeper of an empty folder into the empty place. It has one log, of number 0. Until that is created each call but
+ * mtr_log_segment, mtr_log_bytes and mtr_log_created answers WRONG. Logs are of format 4. `salt` is a random number: the
+ * first file has it, and each further one the next number, so that bytes of other files that a crash leaves in a file are
+ * known. WRONG: the place is not empty. */
 uint32_t mtr_keeper_begin(mtr_place *keeper, uint64_t salt);
 
 /* Begins the log of a new worker, which is to be created. From then on acknowledgements wait for it. DONE: *log is its
@@ -281,7 +282,8 @@ typedef struct mtr_lent {
 
 /* Takes all that was appended to the log since the last call, to be appended to its file by one write, and synced: of a file
  * of format 4 one block. From then on `buffer` holds these bytes. EARLY: those of the last call are not synced. WRONG: also
- * if `buffer` is not empty and holds no bytes. */
+ * if `buffer` is not empty and holds no bytes. If it is empty, MEMORY may come
+ * before a WRONG of the log. */
 uint32_t mtr_log_take(mtr_place *keeper, size_t log, mtr_place *buffer, mtr_lent *lent);
 
 /* Notes that all bytes taken of the log are in its file, which was synced since. */
