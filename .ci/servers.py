@@ -1,4 +1,4 @@
-"""Servers, their clients, what both told, and what recovery finds after a crash, for the scripts that stop servers."""
+"""Servers over the hosts, their clients, and what both told, for the scripts that stop servers."""
 import itertools
 import os
 import random
@@ -7,37 +7,18 @@ import socket
 import subprocess
 import threading
 from contextlib import suppress
-from typing import NamedTuple
-
-from counting import count
-from formats import GREATEST
-from stores import run
 
 # How many keys the clients share.
 KEYS = 20
-
-
-class Line(NamedTuple):
-    """A line that the server told, or that a client sent."""
-
-    what: str
-    key: str
-    version: int
-    value: str
-
-
-def sent(key, value):
-    """Returns the line of an update that a client asked for. Its version is not known."""
-    return Line("sent", key, GREATEST, value)
+# The server's logs, and the bytes of a segment and between checkpoints: small, so that a life has many.
+SIZES = ["3", "1500", "6000"]
 
 
 class Client:
-    """A connection to the server. It remembers the lines that it was told, and the update that it has sent, until that is
-    acknowledged."""
+    """A connection to the server. It tells the lines of mtrecover-torture, those of its updates before it sends them too."""
 
-    def __init__(self, number, at):
-        self.number, self.waits, self.mine, self.is_right = number, None, "-", True
-        self.told = []
+    def __init__(self, number, at, tell):
+        self.number, self.tell, self.mine, self.is_right = number, tell, "-", True
         self.socket = socket.socket(socket.AF_UNIX)
         self.socket.connect(at)
         self.lines = self.socket.makefile("r")
@@ -45,7 +26,8 @@ class Client:
     def ask(self, line):
         """Sends a request, and returns the words of the lines that answer it."""
         what, key, *value = line.split()
-        self.waits = sent(key, *(value or ["-"])) if what in ("set", "del") else None
+        if what in ("set", "del"):
+            self.tell(f"put {key} ? {value[0] if value else '-'}\n")
         self.socket.sendall(f"{line}\n".encode())
         last = {"set": "ack", "del": "ack", "get": "has", "range": "end"}[what]
         answers = []
@@ -53,10 +35,9 @@ class Client:
             line = self.lines.readline()
             if not line.endswith("\n"):
                 raise ConnectionError
-            self.told.append(line)
             answers.append(line.split())
-            if answers[-1][0] == "ack":
-                self.waits = None
+            if answers[-1][0] in ("put", "ack"):
+                self.tell(line)
         return answers
 
     def ask_any(self, number):
@@ -73,10 +54,12 @@ class Client:
             self.ask({"del": f"del {key}", "get": f"get {key}", "range": f"range {key} 5"}[what])
 
     def run(self):
-        """Asks until the server is gone."""
+        """Asks until the server is gone, or answers wrongly."""
         with suppress(OSError):
             for number in itertools.count(random.randrange(10**9)):
                 self.ask_any(number)
+                if not self.is_right:
+                    return
 
 
 class Server:
@@ -93,7 +76,7 @@ class Server:
 
     def store(self):
         """Returns the values of all keys."""
-        return {key: value for _, key, value in Client(0, self.at).ask("range 0 1000")[:-1]}
+        return {key: value for _, key, value in Client(0, self.at, None).ask("range 0 1000")[:-1]}
 
     def kill(self):
         self.process.send_signal(signal.SIGKILL)
@@ -104,56 +87,10 @@ class Server:
         return self.process.returncode, err
 
 
-def start_clients(number, at):
+def start_clients(number, at, tell):
     """Lets this many clients ask, each in a thread. Returns them and the threads."""
-    clients = [Client(n, at) for n in range(number)]
+    clients = [Client(n, at, tell) for n in range(number)]
     threads = [threading.Thread(target=client.run) for client in clients]
     for thread in threads:
         thread.start()
     return clients, threads
-
-
-def waiting(clients, lines):
-    """Returns the updates that clients have sent, and that none of these lines has."""
-    made = {line.value for line in lines if line.what == "put" and line.value != "-"}
-    return [client.waits for client in clients if client.waits and client.waits.value not in made]
-
-
-def read_lines(lines):
-    """Returns the updates that a server told of, and those that it acknowledged."""
-    return [Line(what, words[0], int(words[1]), words[-1]) for what, *words in map(str.split, lines) if what in ("put", "ack")]
-
-
-def store_of(folder):
-    """Returns the values of the keys that recovery finds, and what it says if it finds no store."""
-    status, out, err = run("dump", folder, "--text", "--workers", "1")
-    if (status, err) == (1, b"mtrecover: no logs\n"):
-        return {}, ""
-    return dict(line.split(": 0=") for line in out.decode().splitlines()), err.decode()
-
-
-def wrongs(base, lines, store):
-    """Returns what is wrong with a store, if the server began with another one and told these lines."""
-    made = {key: {value: 0} for key, value in base.items()}
-    acked = {}
-    for line in lines:
-        if line.what in ("put", "sent"):
-            values = made.setdefault(line.key, {"-": 0})
-            values[line.value] = max(line.version, values.get(line.value, 0))
-        elif line.what == "ack":
-            acked[line.key] = max(line.version, acked.get(line.key, 0))
-    for key in sorted({*made, *store}):
-        value = store.get(key, "-")
-        version = made.get(key, {}).get(value)
-        if version is None:
-            yield f"{key} is {value}, which was never sent"
-        elif version < acked.get(key, 0):
-            yield f"{key} is {value}, and the acknowledged version {acked[key]} is lost"
-
-
-def check(told, folder, base, lines):
-    """Checks what recovery finds in a folder. Returns the store."""
-    store, fault = store_of(folder)
-    wrong = [fault] if fault else list(wrongs(base, lines, store))
-    count(f"{told}: {'; '.join(wrong[:3])}", not wrong)
-    return store

@@ -1,0 +1,1 @@
+../mtrecover-torture
