@@ -60,7 +60,7 @@ impl Table {
     /// The recovered store. No key has a version above this one.
     fn of(store: Option<&Store>, version: u64) -> Outcome<Table> {
         let mut table = BTreeMap::new();
-        for mut pair in store.iter().flat_map(|store| store.pairs(b"")) {
+        for mut pair in store.iter().flat_map(|store| store.range(..)) {
             let value = String::from_utf8(pair.columns.swap_remove(0).1)?;
             table.insert(String::from_utf8(pair.key)?, Entry { value, version });
         }

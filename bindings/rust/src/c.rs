@@ -122,6 +122,8 @@ impl<'a> Column<'a> {
     }
 }
 
+// The crate does without some of them.
+#[allow(dead_code)]
 extern "C" {
     pub fn mtr_feed_log(feed: *mut RawPlace) -> u32;
     pub fn mtr_feed_part(feed: *mut RawPlace) -> u32;

@@ -11,36 +11,83 @@ pub struct OutOfMemory;
 
 /// The one fault that the rules give logs and parts without a store. Logs, parts and records are counted from 0.
 #[derive(Clone, Copy, Debug, PartialEq, Eq)]
+#[non_exhaustive]
 pub enum Fault {
     /// There are no logs.
     NoLogs,
     /// A log has no whole header.
-    Header { log: u64 },
+    Header {
+        /// The log's number.
+        log: u64,
+    },
     /// This record is not lawful.
-    Record { log: u64, record: u64, what: What },
+    Record {
+        /// The log's number.
+        log: u64,
+        /// How many complete records precede it in its log.
+        record: u64,
+        /// What is wrong with it.
+        what: What,
+    },
     /// A log's device failed.
-    Source { log: u64 },
+    Source {
+        /// The log's number.
+        log: u64,
+    },
     /// A part's device failed.
-    PartSource { part: u64 },
+    PartSource {
+        /// The part's number.
+        part: u64,
+    },
     /// What stands before this log is missing.
-    Gap { log: u64 },
+    Gap {
+        /// The log's number.
+        log: u64,
+    },
     /// A log is the same segment as an earlier one.
-    Doubled { log: u64 },
+    Doubled {
+        /// The log's number.
+        log: u64,
+    },
     /// A log is cut off, and a later segment of its worker is there.
-    Torn { log: u64 },
+    Torn {
+        /// The log's number.
+        log: u64,
+    },
+    /// A fault that this crate does not know, by the numbers of `mtr_fault`: the library is newer.
+    Other {
+        /// Its kind.
+        kind: u32,
+        /// What is wrong with a record, or 0.
+        what: u32,
+        /// The number of the log or part, or 0.
+        index: u64,
+        /// The number of the record, or 0.
+        record: u64,
+    },
 }
 
 /// What is wrong with a record.
 #[derive(Clone, Copy, Debug, PartialEq, Eq)]
+#[non_exhaustive]
 pub enum What {
+    /// The format does not allow its length.
     Length = 1,
+    /// The number after its body is not its length.
     Trailer,
+    /// The format has no kind of this byte.
     Kind,
+    /// Its fields do not end with its body.
     Frame,
+    /// Its version is 0.
     Version,
+    /// Its key is too long.
     Key,
+    /// Its columns are none, too many, too great, or do not rise.
     Columns,
+    /// Its timestamp is below the one before.
     Clock,
+    /// Its block is damaged.
     Checksum,
 }
 
@@ -62,13 +109,13 @@ impl Fault {
         match kind {
             1 => Fault::NoLogs,
             2 => Fault::Header { log: index },
-            3 => Fault::Record { log: index, record, what: WHATS[what as usize - 1] },
+            3 if (1..=9).contains(&what) => Fault::Record { log: index, record, what: WHATS[what as usize - 1] },
             4 => Fault::Source { log: index },
             5 => Fault::PartSource { part: index },
             6 => Fault::Gap { log: index },
             9 => Fault::Doubled { log: index },
             10 => Fault::Torn { log: index },
-            _ => unreachable!("a fault of kind {kind}"),
+            _ => Fault::Other { kind, what, index, record },
         }
     }
 
@@ -82,6 +129,7 @@ impl Fault {
             Fault::Gap { log } => (6, log),
             Fault::Doubled { log } => (9, log),
             Fault::Torn { log } => (10, log),
+            Fault::Other { kind, what, index, record } => return RawFault { kind, what, index, record },
         };
         RawFault { kind, index, ..RawFault::default() }
     }
@@ -103,14 +151,19 @@ impl Display for Fault {
 
 /// Why recovery gives no store.
 #[derive(Clone, Copy, Debug, PartialEq, Eq)]
+#[non_exhaustive]
 pub enum Error {
+    /// There is not enough memory.
     OutOfMemory,
+    /// The logs and parts have this fault.
     Fault(Fault),
 }
 
 /// Why a record, entry or log was not written.
 #[derive(Clone, Copy, Debug, PartialEq, Eq)]
+#[non_exhaustive]
 pub enum WriteError {
+    /// There is not enough memory.
     OutOfMemory,
     /// Version 0, no column, numbers of columns that do not rise, or what the format does not have.
     NotLawful,

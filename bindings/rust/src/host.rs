@@ -36,6 +36,7 @@ use crate::{Feed, Inputs, OutOfMemory, Store};
 /// What a host works on.
 #[derive(Clone, Debug)]
 pub struct Settings {
+    /// The folder of its files.
     pub folder: PathBuf,
     /// This many threads write, each a log of its own.
     pub logs: usize,
@@ -53,6 +54,7 @@ pub struct HostError {
 }
 
 impl HostError {
+    /// The error that this was not done, and why.
     pub fn new(what: &str, why: impl Display) -> HostError {
         HostError { what: what.to_owned(), why: why.to_string() }
     }

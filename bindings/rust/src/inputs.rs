@@ -115,6 +115,7 @@ impl Inputs {
         // SAFETY: the place holds a job, and all its tasks are back; the same below.
         done(unsafe { c::mtr_replay(job.raw()) })?;
         do_step(&job, &mut run)?;
+        // SAFETY: the place holds a job, and all its tasks are back.
         done(unsafe { c::mtr_assemble(job.raw()) })?;
         Ok(Store(job))
     }

@@ -44,7 +44,9 @@ pub struct Keeper(Place);
 /// The segment of a worker's log that a file is, for its name.
 #[derive(Clone, Copy, Debug, PartialEq, Eq, PartialOrd, Ord)]
 pub struct Segment {
+    /// The number of its worker.
     pub worker: u32,
+    /// Its number among those of its worker.
     pub number: u32,
 }
 
@@ -117,7 +119,9 @@ pub struct Worker {
 /// A checkpoint that is being made. Both numbers stand in the headers of its parts.
 #[derive(Clone, Copy, Debug, PartialEq, Eq)]
 pub struct Checkpoint {
+    /// Its number.
     pub number: u32,
+    /// The timestamp from which updates may be missing from it.
     pub begin: u64,
 }
 
@@ -130,7 +134,9 @@ pub struct Resuming {
 
 /// Why a keeper does not do what it is asked. Then nothing changed.
 #[derive(Clone, Copy, Debug, PartialEq, Eq)]
+#[non_exhaustive]
 pub enum KeeperError {
+    /// There is not enough memory.
     OutOfMemory,
     /// No log of format 2 has the record; the log is another keeper's; or it does not go on.
     NotLawful,
@@ -177,14 +183,13 @@ unsafe fn lent<'b>(raw: RawLent) -> &'b [u8] {
     }
 }
 
-// SAFETY, also below: slices are lent for the call, places hold what their type says, and a buffer's nothing or bytes.
-
 impl Keeper {
     /// The keeper of an empty folder, and its first log. It takes no other log until this one is created. Logs are of format
     /// 4. `salt` is a random number: the first file has it, and each further one the next number, so that bytes of other
     /// files that a crash leaves in a file are known.
     pub fn begin(salt: u64) -> Result<(Keeper, NewLog), OutOfMemory> {
         let keeper = Keeper(Place::empty());
+        // SAFETY: the place is empty.
         done(unsafe { c::mtr_keeper_begin(keeper.0.raw(), salt) })?;
         let first = keeper.new_log(0);
         Ok((keeper, first))
@@ -195,6 +200,7 @@ impl Keeper {
     /// folder had, or 0. `salt` is as for [`Keeper::begin`]: no salt of a log that was resumed.
     pub fn resume(store: &Store, number: u32, salt: u64) -> Result<Resuming, OutOfMemory> {
         let place = Place::empty();
+        // SAFETY: one place is empty, and the other holds a store.
         done(unsafe { c::mtr_keeper_resume(place.raw(), store.0.raw(), number, salt) })?;
         Ok(Resuming { place, logs: Vec::new() })
     }
@@ -202,6 +208,7 @@ impl Keeper {
     /// Begins the log of a new worker. From then on acknowledgements wait for it.
     pub fn begin_log(&mut self) -> Result<NewLog, KeeperError> {
         let mut number = 0;
+        // SAFETY: the place holds a keeper.
         answered(unsafe { c::mtr_log_begin(self.0.raw(), &mut number) })?;
         Ok(self.new_log(number))
     }
@@ -210,6 +217,7 @@ impl Keeper {
     /// it takes records as before.
     pub fn rotate(&mut self, log: Log) -> Result<NewLog, (Log, KeeperError)> {
         let mut next = 0;
+        // SAFETY: the place holds a keeper.
         match unsafe { c::mtr_log_rotate(self.0.raw(), log.number, &mut next) } {
             c::DONE => Ok(self.new_log(next)),
             status => Err((log, KeeperError::of(status))),
@@ -219,18 +227,21 @@ impl Keeper {
     /// Returns the log of this number, which is to be created.
     fn new_log(&self, number: usize) -> NewLog {
         let mut bytes = Vec::new();
+        // SAFETY: the place holds a keeper, and `append` says where and how much may be written.
         append(&mut bytes, |out, room, count| unsafe { c::mtr_log_bytes(self.0.raw(), number, out, room, count) });
         NewLog { number, segment: self.segment(number).expect("a new log is a segment"), bytes }
     }
 
     fn segment(&self, number: usize) -> Option<Segment> {
         let mut segment = Segment { worker: 0, number: 0 };
+        // SAFETY: the place holds a keeper.
         let status = unsafe { c::mtr_log_segment(self.0.raw(), number, &mut segment.worker, &mut segment.number) };
         (status == c::DONE).then_some(segment)
     }
 
     /// Notes that the file of the log has its bytes and its name, and that all is synced.
     pub fn created(&mut self, new: NewLog) -> Result<Log, KeeperError> {
+        // SAFETY: the place holds a keeper.
         answered(unsafe { c::mtr_log_created(self.0.raw(), new.number) })?;
         Ok(Log { number: new.number })
     }
@@ -240,6 +251,7 @@ impl Keeper {
     /// were not taken; take, write and sync them first.
     pub fn put(&mut self, log: &Log, key: &[u8], columns: &[Column]) -> Result<u64, KeeperError> {
         let (length, n) = (key.len(), columns.len());
+        // SAFETY: slices are lent for the call, and the place holds a keeper.
         self.stamp(|keeper, stamp| unsafe {
             c::mtr_log_put(keeper, log.number, key.as_ptr(), length, columns.as_ptr(), n, stamp)
         })
@@ -247,12 +259,14 @@ impl Keeper {
 
     /// Appends a remove of the key, likewise.
     pub fn remove(&mut self, log: &Log, key: &[u8]) -> Result<u64, KeeperError> {
+        // SAFETY: slices are lent for the call, and the place holds a keeper.
         self.stamp(|keeper, stamp| unsafe { c::mtr_log_remove(keeper, log.number, key.as_ptr(), key.len(), stamp) })
     }
 
     /// Appends an erase of the columns with these numbers, which rise, likewise.
     pub fn erase(&mut self, log: &Log, key: &[u8], numbers: &[u8]) -> Result<u64, KeeperError> {
         let (length, n) = (key.len(), numbers.len());
+        // SAFETY: slices are lent for the call, and the place holds a keeper.
         self.stamp(|keeper, stamp| unsafe {
             c::mtr_log_erase(keeper, log.number, key.as_ptr(), length, numbers.as_ptr(), n, stamp)
         })
@@ -267,6 +281,7 @@ impl Keeper {
 
     /// Appends a mark beyond all stamps: once each log has synced one, all updates before may be acknowledged.
     pub fn mark(&mut self, log: &Log) -> Result<(), KeeperError> {
+        // SAFETY: the place holds a keeper.
         answered(unsafe { c::mtr_log_mark(self.0.raw(), log.number) })
     }
 
@@ -274,6 +289,7 @@ impl Keeper {
     /// of the last call are not synced.
     pub fn take<'b>(&mut self, log: &Log, buffer: &'b mut Buffer) -> Result<Taken<'b>, KeeperError> {
         let mut raw = NOTHING;
+        // SAFETY: one place holds a keeper, and the buffer nothing or bytes.
         answered(unsafe { c::mtr_log_take(self.0.raw(), log.number, buffer.0.raw(), &mut raw) })?;
         // SAFETY: the buffer is borrowed for `'b`.
         Ok(Taken { number: log.number, bytes: unsafe { lent(raw) } })
@@ -281,12 +297,14 @@ impl Keeper {
 
     /// Notes that these bytes are in the log's file, which was synced since.
     pub fn synced(&mut self, taken: Taken) -> Result<(), KeeperError> {
+        // SAFETY: the place holds a keeper.
         answered(unsafe { c::mtr_log_synced(self.0.raw(), taken.number) })
     }
 
     /// Notes that a write or a sync failed. From then on each call that would change the keeper answers `Failed`. Restart the
     /// machine, and recover from its disk: a later sync may succeed although bytes are lost.
     pub fn failed(&mut self) {
+        // SAFETY: the place holds a keeper.
         unsafe { c::mtr_keeper_failed(self.0.raw()) };
     }
 
@@ -310,6 +328,7 @@ impl Keeper {
     /// # Ok::<(), Box<dyn std::error::Error>>(())
     /// ```
     pub fn lend(self) -> Result<Crew, (Keeper, KeeperError)> {
+        // SAFETY: the place holds a keeper.
         match answered(unsafe { c::mtr_keeper_lend(self.0.raw()) }) {
             Ok(()) => Ok(Crew { place: self.0, out: Vec::new() }),
             Err(error) => Err((self, error)),
@@ -319,6 +338,7 @@ impl Keeper {
     /// All updates with stamps below this one may be acknowledged, or shown.
     pub fn acknowledged_below(&self) -> u64 {
         let mut below = 0;
+        // SAFETY: the place holds a keeper.
         unsafe { c::mtr_keeper_acknowledged(self.0.raw(), &mut below) };
         below
     }
@@ -327,6 +347,7 @@ impl Keeper {
     /// last update. `Early`: one is being made.
     pub fn begin_checkpoint(&mut self) -> Result<Checkpoint, KeeperError> {
         let mut made = Checkpoint { number: 0, begin: 0 };
+        // SAFETY: the place holds a keeper.
         answered(unsafe { c::mtr_checkpoint_begin(self.0.raw(), &mut made.number, &mut made.begin) })?;
         Ok(made)
     }
@@ -335,6 +356,7 @@ impl Keeper {
     /// the folder. `Early`: no checkpoint is being read.
     pub fn end_checkpoint(&mut self) -> Result<u64, KeeperError> {
         let mut end = 0;
+        // SAFETY: the place holds a keeper.
         answered(unsafe { c::mtr_checkpoint_end(self.0.raw(), &mut end) })?;
         Ok(end)
     }
@@ -342,11 +364,13 @@ impl Keeper {
     /// Notes that the parts are there and the folder is synced: the server stands on this checkpoint. Then parts of earlier
     /// ones may be deleted. `Early`: no checkpoint was read, or some log is not synced past its end.
     pub fn stand(&mut self) -> Result<(), KeeperError> {
+        // SAFETY: the place holds a keeper.
         answered(unsafe { c::mtr_checkpoint_stand(self.0.raw()) })
     }
 
     /// Gives up the checkpoint that is being made, if there is one.
     pub fn abandon_checkpoint(&mut self) -> Result<(), KeeperError> {
+        // SAFETY: the place holds a keeper.
         answered(unsafe { c::mtr_checkpoint_abandon(self.0.raw()) })
     }
 
@@ -354,6 +378,7 @@ impl Keeper {
     /// checkpoint's begin on. Delete its file, and sync the folder.
     pub fn next_to_delete(&mut self) -> Option<OldLog> {
         let mut number = 0;
+        // SAFETY: the place holds a keeper.
         match unsafe { c::mtr_log_delete(self.0.raw(), &mut number) } {
             c::DONE => Some(OldLog { number, segment: self.segment(number)? }),
             _ => None,
@@ -362,6 +387,7 @@ impl Keeper {
 
     /// Notes that the file of the log is deleted, and the folder synced.
     pub fn deleted(&mut self, old: OldLog) -> Result<(), KeeperError> {
+        // SAFETY: the place holds a keeper.
         answered(unsafe { c::mtr_log_deleted(self.0.raw(), old.number) })
     }
 }
@@ -370,10 +396,12 @@ impl Crew {
     /// Hands out a log, for one thread. `None`: all are handed out.
     pub fn hire(&mut self) -> Result<Option<Worker>, OutOfMemory> {
         let (place, mut log) = (Place::empty(), 0);
+        // SAFETY: one place holds a crew, and the other is empty.
         match unsafe { c::mtr_crew_hire(self.place.raw(), place.raw()) } {
             c::ABSENT => return Ok(None),
             status => done(status)?,
         }
+        // SAFETY: the place holds a worker.
         unsafe { c::mtr_worker_log(place.raw(), &mut log) };
         let log = Arc::new(log);
         self.out.push(Arc::clone(&log));
@@ -397,6 +425,7 @@ impl Crew {
 
     /// Returns the keeper. `Early`: a log is handed out.
     pub fn close(self) -> Result<Keeper, (Crew, KeeperError)> {
+        // SAFETY: the place holds a crew.
         match answered(unsafe { c::mtr_crew_close(self.place.raw()) }) {
             Ok(()) => Ok(Keeper(self.place)),
             Err(error) => Err((self, error)),
@@ -413,6 +442,7 @@ impl Worker {
     /// As [`Keeper::put`]: stamps of all threads rise in one order. `Full`: it has drawn 2^44 stamps, or the log has no room.
     pub fn put(&mut self, key: &[u8], columns: &[Column]) -> Result<u64, KeeperError> {
         let (length, n) = (key.len(), columns.len());
+        // SAFETY: slices are lent for the call, and the place holds a worker.
         self.stamp(|worker, stamp| unsafe {
             c::mtr_worker_put(worker, key.as_ptr(), length, columns.as_ptr(), n, stamp)
         })
@@ -420,12 +450,14 @@ impl Worker {
 
     /// As [`Keeper::remove`].
     pub fn remove(&mut self, key: &[u8]) -> Result<u64, KeeperError> {
+        // SAFETY: slices are lent for the call, and the place holds a worker.
         self.stamp(|worker, stamp| unsafe { c::mtr_worker_remove(worker, key.as_ptr(), key.len(), stamp) })
     }
 
     /// As [`Keeper::erase`].
     pub fn erase(&mut self, key: &[u8], numbers: &[u8]) -> Result<u64, KeeperError> {
         let (length, n) = (key.len(), numbers.len());
+        // SAFETY: slices are lent for the call, and the place holds a worker.
         self.stamp(|worker, stamp| unsafe {
             c::mtr_worker_erase(worker, key.as_ptr(), length, numbers.as_ptr(), n, stamp)
         })
@@ -440,12 +472,14 @@ impl Worker {
 
     /// As [`Keeper::mark`].
     pub fn mark(&mut self) -> Result<(), KeeperError> {
+        // SAFETY: the place holds a worker.
         answered(unsafe { c::mtr_worker_mark(self.place.raw()) })
     }
 
     /// As [`Keeper::take`].
     pub fn take<'b>(&mut self, buffer: &'b mut Buffer) -> Result<Taken<'b>, KeeperError> {
         let mut raw = NOTHING;
+        // SAFETY: one place holds a worker, and the buffer nothing or bytes.
         answered(unsafe { c::mtr_worker_take(self.place.raw(), buffer.0.raw(), &mut raw) })?;
         // SAFETY: the buffer is borrowed for `'b`.
         Ok(Taken { number: *self.log, bytes: unsafe { lent(raw) } })
@@ -456,17 +490,20 @@ impl Worker {
         if taken.number != *self.log {
             return Err(KeeperError::NotLawful);
         }
+        // SAFETY: the place holds a worker.
         answered(unsafe { c::mtr_worker_synced(self.place.raw()) })
     }
 
     /// Notes that a write or a sync failed: the worker takes nothing more, and the keeper fails once the log is back.
     pub fn failed(&mut self) {
+        // SAFETY: the place holds a worker.
         unsafe { c::mtr_worker_failed(self.place.raw()) };
     }
 
     /// All updates of all threads with stamps below this one may be acknowledged, or shown.
     pub fn acknowledged_below(&mut self) -> u64 {
         let mut below = 0;
+        // SAFETY: the place holds a worker.
         unsafe { c::mtr_worker_acknowledged(self.place.raw(), &mut below) };
         below
     }
@@ -517,6 +554,7 @@ impl Resuming {
     /// the file's. `NotLawful`: it is ended, or is a segment that was added, or was not resumed with the store's cutoff.
     pub fn add(&mut self, log: &[u8]) -> Result<(), KeeperError> {
         let mut number = 0;
+        // SAFETY: slices are lent for the call, and the place holds a keeper.
         answered(unsafe { c::mtr_keeper_add(self.place.raw(), log.as_ptr(), log.len(), &mut number) })?;
         self.logs.push(number);
         Ok(())
@@ -525,6 +563,7 @@ impl Resuming {
     /// Notes that all logs are added, and that all files and the folder are synced. Returns those that take records, in the
     /// order in which they were added: all but segments that a later one follows.
     pub fn finish(self) -> Result<(Keeper, Vec<Log>), KeeperError> {
+        // SAFETY: the place holds a keeper.
         answered(unsafe { c::mtr_keeper_resumed(self.place.raw()) })?;
         let keeper = Keeper(self.place);
         let segments: Vec<_> = self.logs.iter().map(|&number| keeper.segment(number)).collect();

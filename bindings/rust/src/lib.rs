@@ -20,7 +20,7 @@
 //! assert_eq!(store.get(b"fig", 1), Some(b"ripe".to_vec()));
 //! assert_eq!(store.report().cutoff, 5);
 //! for pair in store.range(&b"a"[..]..&b"m"[..]) {
-//!     assert_eq!(pair?.columns.len(), 2);
+//!     assert_eq!(pair.columns.len(), 2);
 //! }
 //! # Ok::<(), Box<dyn std::error::Error>>(())
 //! ```
@@ -30,6 +30,7 @@
 
 #![no_std]
 #![warn(missing_debug_implementations)]
+#![deny(missing_docs, clippy::undocumented_unsafe_blocks)]
 
 extern crate alloc;
 
@@ -38,6 +39,8 @@ mod fault;
 #[cfg(feature = "host")]
 pub mod host;
 mod inputs;
+#[cfg(feature = "host")]
+mod io;
 pub mod keeper;
 mod pairs;
 pub mod records;
@@ -46,11 +49,12 @@ mod store;
 pub use fault::{Error, Fault, OutOfMemory, What, WriteError};
 pub use inputs::{recover, Feed, Inputs, Task};
 pub use keeper::{Buffer, Keeper, KeeperError};
-pub use pairs::Walk;
-pub use store::{Pair, Pairs, Report, Store};
+pub use pairs::{Columns, Pair, PairRef, Walk};
+pub use store::{Report, Store};
 
 /// What the library is that is linked.
 #[derive(Clone, Copy, Debug, PartialEq, Eq)]
+#[non_exhaustive]
 pub struct Version {
     /// Its version.
     pub library: u32,

@@ -1,10 +1,11 @@
 //! Pairs in their flat form, which `docs/FORMATS.md` shows: each is the entry of a part.
 
 use alloc::vec::Vec;
+use core::ops::{Bound, RangeBounds};
 
 use crate::c;
 use crate::records::append;
-use crate::{Pair, Store};
+use crate::Store;
 
 /// How many bytes of pairs are copied out of the tree at a time.
 const ROOM: usize = 1 << 16;
@@ -15,6 +16,62 @@ const BEFORE_KEY: usize = 12;
 /// The bytes after the columns: the length once more.
 const TRAILER: usize = 4;
 
+/// A key with its columns, by rising numbers.
+#[derive(Clone, Debug, PartialEq, Eq)]
+pub struct Pair {
+    /// The key.
+    pub key: Vec<u8>,
+    /// The number and the value of each column: at least one.
+    pub columns: Vec<(u8, Vec<u8>)>,
+}
+
+/// A key with its columns, lent by a [`Walk`].
+#[derive(Clone, Copy, Debug, PartialEq, Eq)]
+pub struct PairRef<'w> {
+    /// The key.
+    pub key: &'w [u8],
+    /// The columns, by rising numbers: at least one.
+    pub columns: Columns<'w>,
+}
+
+impl<'w> PairRef<'w> {
+    /// Returns the value of the column of this number, if it is there.
+    pub fn get(&self, number: u8) -> Option<&'w [u8]> {
+        self.columns.into_iter().find(|column| column.0 == number).map(|column| column.1)
+    }
+
+    /// Copies the pair.
+    pub fn to_pair(&self) -> Pair {
+        let columns = self.columns.into_iter().map(|(number, value)| (number, value.to_vec()));
+        Pair { key: self.key.to_vec(), columns: columns.collect() }
+    }
+}
+
+/// The numbers and values of a pair's columns, which an iterator returns in order.
+#[derive(Clone, Copy, Debug, PartialEq, Eq)]
+pub struct Columns<'w> {
+    left: u8,
+    bytes: &'w [u8],
+}
+
+impl<'w> Iterator for Columns<'w> {
+    type Item = (u8, &'w [u8]);
+
+    fn next(&mut self) -> Option<(u8, &'w [u8])> {
+        self.left = self.left.checked_sub(1)?;
+        let number = self.bytes[0];
+        let (value, rest) = counted(&self.bytes[1..]);
+        self.bytes = rest;
+        Some((number, value))
+    }
+
+    fn size_hint(&self) -> (usize, Option<usize>) {
+        (self.left.into(), Some(self.left.into()))
+    }
+}
+
+impl ExactSizeIterator for Columns<'_> {}
+
 impl Store {
     /// Returns the pair of this key, if it is there.
     pub fn pair(&self, key: &[u8]) -> Option<Pair> {
@@ -23,28 +80,100 @@ impl Store {
         let status = append(&mut bytes, |out, room, count| unsafe {
             c::mtr_pair(self.0.raw(), key.as_ptr(), key.len(), out, room, count)
         });
-        (status == c::DONE).then(|| read(&bytes).0)
+        (status == c::DONE).then(|| read(&bytes).0.to_pair())
     }
 
-    /// Returns the pairs whose keys are at or after `start`, in order. They come out of the tree many at a time, into one
-    /// buffer, and so faster than those of [`Store::range`].
-    pub fn pairs(&self, start: &[u8]) -> Walk<'_> {
-        Walk { store: self, start: start.to_vec(), bytes: Vec::new(), at: 0 }
+    /// Returns the pairs whose keys lie in the range, in order. Keys are compared byte by byte. Ranges can go to threads of
+    /// their own:
+    ///
+    /// ```
+    /// # let mut log = Vec::new();
+    /// # mtrecover::records::log_header(&mut log, mtrecover::records::Format::Two, 0)?;
+    /// # mtrecover::records::mark(&mut log, 5)?;
+    /// # let store = mtrecover::recover(&[&log], &[])?;
+    /// let ranges = [store.range(..&b"m"[..]), store.range(&b"m"[..]..)];
+    /// let counts = std::thread::scope(|scope| {
+    ///     let threads = ranges.map(|walk| scope.spawn(|| walk.count()));
+    ///     threads.map(|thread| thread.join().unwrap())
+    /// });
+    /// # assert_eq!(counts, [0, 0]);
+    /// # Ok::<(), Box<dyn std::error::Error>>(())
+    /// ```
+    pub fn range<'a>(&self, keys: impl RangeBounds<&'a [u8]>) -> Walk {
+        let mut start = Vec::new();
+        if let Bound::Included(key) | Bound::Excluded(key) = keys.start_bound() {
+            start.extend_from_slice(key);
+        }
+        if let Bound::Excluded(_) = keys.start_bound() {
+            start.push(0);
+        }
+        let end = keys.end_bound().map(|key| key.to_vec());
+        Walk { store: self.clone(), start, end, bytes: Vec::new(), at: 0 }
     }
 }
 
-/// The pairs from a key on.
+impl IntoIterator for &Store {
+    type Item = Pair;
+    type IntoIter = Walk;
+
+    /// Returns all pairs, in order.
+    fn into_iter(self) -> Walk {
+        self.range(..)
+    }
+}
+
+/// The pairs of a range of keys. They come out of the tree many at a time, into one buffer. As an iterator it copies each;
+/// [`next_ref`](Walk::next_ref) lends them.
+///
+/// ```
+/// # let mut log = Vec::new();
+/// # mtrecover::records::log_header(&mut log, mtrecover::records::Format::Two, 0)?;
+/// # mtrecover::records::mark(&mut log, 5)?;
+/// # let store = mtrecover::recover(&[&log], &[])?;
+/// let mut bytes = 0;
+/// let mut pairs = store.into_iter();
+/// while let Some(pair) = pairs.next_ref() {
+///     bytes += pair.columns.map(|(_, value)| value.len()).sum::<usize>();
+/// }
+/// # assert_eq!(bytes, 0);
+/// # Ok::<(), Box<dyn std::error::Error>>(())
+/// ```
 #[derive(Debug)]
-pub struct Walk<'s> {
-    store: &'s Store,
-    /// Where the pairs behind those in the buffer start.
+pub struct Walk {
+    /// The store's place for this walk, so that a thread can have it.
+    store: Store,
+    /// Where the pairs behind those in the buffer start, and where the range ends.
     start: Vec<u8>,
+    end: Bound<Vec<u8>>,
     /// Pairs, and how many bytes of them were returned.
     bytes: Vec<u8>,
     at: usize,
 }
 
-impl Walk<'_> {
+impl Walk {
+    /// Returns the next pair, lent until the walk goes on.
+    pub fn next_ref(&mut self) -> Option<PairRef<'_>> {
+        if self.at == self.bytes.len() && !self.advance() {
+            return None;
+        }
+        let (pair, length) = read(&self.bytes[self.at..]);
+        let is_in = match &self.end {
+            Bound::Included(end) => pair.key <= &end[..],
+            Bound::Excluded(end) => pair.key < &end[..],
+            Bound::Unbounded => true,
+        };
+        if !is_in {
+            return None;
+        }
+        self.at += length;
+        if self.at == self.bytes.len() {
+            self.start.clear();
+            self.start.extend_from_slice(pair.key);
+            self.start.push(0);
+        }
+        Some(pair)
+    }
+
     /// Takes the next pairs from the tree. Returns whether there are some.
     fn advance(&mut self) -> bool {
         let mut pairs = 0;
@@ -59,35 +188,20 @@ impl Walk<'_> {
     }
 }
 
-impl Iterator for Walk<'_> {
+impl Iterator for Walk {
     type Item = Pair;
 
     fn next(&mut self) -> Option<Pair> {
-        if self.at == self.bytes.len() && !self.advance() {
-            return None;
-        }
-        let (pair, length) = read(&self.bytes[self.at..]);
-        self.at += length;
-        if self.at == self.bytes.len() {
-            self.start.clear();
-            self.start.extend_from_slice(&pair.key);
-            self.start.push(0);
-        }
-        Some(pair)
+        self.next_ref().map(|pair| pair.to_pair())
     }
 }
 
 /// Reads the pair that the bytes begin with. Returns it and its length.
-fn read(bytes: &[u8]) -> (Pair, usize) {
+fn read(bytes: &[u8]) -> (PairRef<'_>, usize) {
     let (key, after) = counted(&bytes[BEFORE_KEY..]);
-    let mut rest = &after[1..];
-    let mut columns = Vec::with_capacity(after[0].into());
-    for _ in 0..after[0] {
-        let (value, after) = counted(&rest[1..]);
-        columns.push((rest[0], value.to_vec()));
-        rest = after;
-    }
-    (Pair { key: key.to_vec(), columns }, bytes.len() - rest.len() + TRAILER)
+    let columns = Columns { left: after[0], bytes: &after[1..] };
+    let length = u32::from_be_bytes([bytes[0], bytes[1], bytes[2], bytes[3]]) as usize;
+    (PairRef { key, columns }, TRAILER + length + TRAILER)
 }
 
 /// Returns the bytes whose two-byte length the slice begins with, and what comes after them.

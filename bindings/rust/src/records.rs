@@ -23,6 +23,7 @@ pub struct Mark(u32);
 
 /// What became of a log.
 #[derive(Clone, Copy, Debug, PartialEq, Eq)]
+#[non_exhaustive]
 pub struct Resumed {
     /// Its updates at or past the cutoff, which are gone.
     pub dropped: u64,
@@ -64,15 +65,16 @@ fn write(out: &mut Vec<u8>, call: impl FnMut(*mut u8, usize, *mut usize) -> u32)
 }
 
 // After `Err` each of these functions leaves `out` as it was.
-// SAFETY: slices are lent for the call, and `append` says where and how much may be written.
 
 /// Appends the header of a log that is no segment. Updates below the timestamp `from` may be missing from the log.
 pub fn log_header(out: &mut Vec<u8>, format: Format, from: u64) -> Result<(), OutOfMemory> {
+    // SAFETY: slices are lent for the call, and `append` says where and how much may be written.
     done(append(out, |at, room, count| unsafe { c::mtr_log_header(format as u32, from, at, room, count) }))
 }
 
 /// Appends the header of a segment of a worker's log.
 pub fn segment_header(out: &mut Vec<u8>, from: u64, worker: u32, segment: u32) -> Result<(), OutOfMemory> {
+    // SAFETY: slices are lent for the call, and `append` says where and how much may be written.
     done(append(out, |at, room, count| unsafe { c::mtr_segment_header(from, worker, segment, at, room, count) }))
 }
 
@@ -88,6 +90,7 @@ pub fn log_header_4(
     from: u64,
 ) -> Result<Mark, OutOfMemory> {
     let mut mark = 0;
+    // SAFETY: slices are lent for the call, and `append` says where and how much may be written.
     done(append(out, |at, room, count| unsafe {
         c::mtr_log_header_4(salt, worker, segment, workers, from, at, room, count, &mut mark)
     }))?;
@@ -96,11 +99,13 @@ pub fn log_header_4(
 
 /// Appends a block with this body to the file with this mark. `NotLawful`: the body has more than 2^23 bytes.
 pub fn seal(out: &mut Vec<u8>, mark: Mark, body: &[u8]) -> Result<(), WriteError> {
+    // SAFETY: slices are lent for the call, and `append` says where and how much may be written.
     write(out, |at, room, count| unsafe { c::mtr_seal(mark.0, body.as_ptr(), body.len(), at, room, count) })
 }
 
 /// Appends a mark.
 pub fn mark(out: &mut Vec<u8>, time: u64) -> Result<(), OutOfMemory> {
+    // SAFETY: slices are lent for the call, and `append` says where and how much may be written.
     done(append(out, |at, room, count| unsafe { c::mtr_mark(time, at, room, count) }))
 }
 
@@ -114,6 +119,7 @@ pub fn put(
     columns: &[Column],
 ) -> Result<(), WriteError> {
     let (format, length, n) = (format as u32, key.len(), columns.len());
+    // SAFETY: slices are lent for the call, and `append` says where and how much may be written.
     write(out, |at, room, count| unsafe {
         c::mtr_put(format, time, version, key.as_ptr(), length, columns.as_ptr(), n, at, room, count)
     })
@@ -121,6 +127,7 @@ pub fn put(
 
 /// Appends a remove of the key to a log of this format.
 pub fn remove(out: &mut Vec<u8>, format: Format, time: u64, version: u64, key: &[u8]) -> Result<(), WriteError> {
+    // SAFETY: slices are lent for the call, and `append` says where and how much may be written.
     write(out, |at, room, count| unsafe {
         c::mtr_remove(format as u32, time, version, key.as_ptr(), key.len(), at, room, count)
     })
@@ -136,6 +143,7 @@ pub fn erase(
     numbers: &[u8],
 ) -> Result<(), WriteError> {
     let (format, length, n) = (format as u32, key.len(), numbers.len());
+    // SAFETY: slices are lent for the call, and `append` says where and how much may be written.
     write(out, |at, room, count| unsafe {
         c::mtr_erase(format, time, version, key.as_ptr(), length, numbers.as_ptr(), n, at, room, count)
     })
@@ -150,6 +158,7 @@ pub fn part_header(
     part: u16,
     parts: u16,
 ) -> Result<(), OutOfMemory> {
+    // SAFETY: slices are lent for the call, and `append` says where and how much may be written.
     done(append(out, |at, room, count| unsafe {
         c::mtr_part_header(format as u32, number, begin, part, parts, at, room, count)
     }))
@@ -166,6 +175,7 @@ pub fn part_header_4(
     parts: u16,
 ) -> Result<Mark, OutOfMemory> {
     let mut mark = 0;
+    // SAFETY: slices are lent for the call, and `append` says where and how much may be written.
     done(append(out, |at, room, count| unsafe {
         c::mtr_part_header_4(salt, number, begin, part, parts, at, room, count, &mut mark)
     }))?;
@@ -181,6 +191,7 @@ pub fn entry(
     columns: &[Column],
 ) -> Result<(), WriteError> {
     let (format, length, n) = (format as u32, key.len(), columns.len());
+    // SAFETY: slices are lent for the call, and `append` says where and how much may be written.
     write(out, |at, room, count| unsafe {
         c::mtr_entry(format, version, key.as_ptr(), length, columns.as_ptr(), n, at, room, count)
     })
@@ -188,6 +199,7 @@ pub fn entry(
 
 /// Appends the footer of a part with so many entries, whose checkpoint ends at the timestamp `end`.
 pub fn part_footer(out: &mut Vec<u8>, end: u64, entries: u32) -> Result<(), OutOfMemory> {
+    // SAFETY: slices are lent for the call, and `append` says where and how much may be written.
     done(append(out, |at, room, count| unsafe { c::mtr_part_footer(end, entries, at, room, count) }))
 }
 
@@ -195,6 +207,7 @@ pub fn part_footer(out: &mut Vec<u8>, end: u64, entries: u32) -> Result<(), OutO
 /// a mark there. A log of format 4 is replaced by a file of format 4 with this salt, a random number, new for each file.
 pub fn resume_log(out: &mut Vec<u8>, log: &[u8], cutoff: u64, salt: u64) -> Result<Resumed, WriteError> {
     let mut raw = RawResumed::default();
+    // SAFETY: slices are lent for the call, and `append` says where and how much may be written.
     write(out, |at, room, count| unsafe {
         c::mtr_resume_log(log.as_ptr(), log.len(), cutoff, salt, &mut raw, at, room, count)
     })?;

@@ -227,8 +227,7 @@ fn answer(recovered: &Result<Store, Error>, logs: usize, words: &[&str]) -> Stri
             }
         }
         _ => {
-            for pair in store.range(..) {
-                let pair = pair.unwrap();
+            for pair in store {
                 write!(text, "\n{}:", hex(&pair.key)).unwrap();
                 for (n, value) in &pair.columns {
                     write!(text, " {n}={}", hex(value)).unwrap();
@@ -334,7 +333,7 @@ fn try_file(name: &str) -> usize {
 
 #[test]
 fn cases_are_as_expected() {
-    let folder = concat!(env!("CARGO_MANIFEST_DIR"), "/../../crates/mt_cases/data");
+    let folder = concat!(env!("CARGO_MANIFEST_DIR"), "/tests/data/cases");
     let mut names: Vec<_> = fs::read_dir(folder).unwrap().map(|entry| entry.unwrap().path()).collect();
     names.sort();
     let mut count = 0;

@@ -1,13 +1,14 @@
 //! Each function of the crate, over examples/ of the repository, whose store README.md and docs/WALKTHROUGH.md show.
 
-use mtrecover::records::{self, Column, Format, Resumed};
+use mtrecover::records::{self, Column, Format};
 use mtrecover::{Error, Fault, Feed, Inputs, Pair, Store, What, WriteError};
 use std::fs;
-use std::ops::RangeBounds;
+use std::io;
+use std::ops::{Bound, RangeBounds};
 use std::thread;
 
 fn example(name: &str) -> Vec<u8> {
-    fs::read(format!("{}/../../examples/{name}", env!("CARGO_MANIFEST_DIR"))).unwrap()
+    fs::read(format!("{}/tests/data/examples/{name}", env!("CARGO_MANIFEST_DIR"))).unwrap()
 }
 
 fn fed(mut feed: Feed, bytes: &[u8]) -> Feed {
@@ -35,7 +36,7 @@ fn store() -> Store {
 }
 
 fn keys<'a>(store: &Store, range: impl RangeBounds<&'a [u8]>) -> Vec<String> {
-    store.range(range).map(|pair| String::from_utf8(pair.unwrap().key).unwrap()).collect()
+    store.range(range).map(|pair| String::from_utf8(pair.key).unwrap()).collect()
 }
 
 fn fault(logs: &[&[u8]]) -> Fault {
@@ -109,7 +110,7 @@ fn a_range_keeps_its_bounds() {
 
 #[test]
 fn a_pair_has_its_columns() {
-    let fig = store().range(..).next().unwrap().unwrap();
+    let fig = store().range(..).next().unwrap();
     let columns = vec![(0, b"green".to_vec()), (1, b"ripe".to_vec())];
     assert_eq!(fig, Pair { key: b"fig".to_vec(), columns });
 }
@@ -117,16 +118,69 @@ fn a_pair_has_its_columns() {
 #[test]
 fn a_pair_is_found_by_its_key() {
     let store = store();
-    assert_eq!(store.pair(b"fig"), store.range(..).next().transpose().unwrap());
+    assert_eq!(store.pair(b"fig"), store.range(..).next());
     assert_eq!(store.pair(b"plum"), None);
 }
 
 #[test]
-fn pairs_are_those_of_a_range() {
-    let store = store();
-    for start in [&b""[..], b"fig", b"g", b"lime", b"pear", b"pearl"] {
-        assert!(store.pairs(start).eq(store.range(start..).map(Result::unwrap)));
+fn a_store_is_iterated() {
+    let mut found = Vec::new();
+    for pair in &store() {
+        found.push(pair);
     }
+    assert_eq!(found.len(), 4);
+    assert!(store().range(..).eq(found));
+}
+
+#[test]
+fn pairs_are_lent() {
+    let store = store();
+    let (mut lent, mut owned) = (store.range(..), store.range(..));
+    while let Some(pair) = lent.next_ref() {
+        assert_eq!(pair.columns.len(), pair.to_pair().columns.len());
+        assert_eq!(Some(pair.to_pair()), owned.next());
+    }
+    assert_eq!(owned.next(), None);
+    let mut figs = store.range(..);
+    let fig = figs.next_ref().unwrap();
+    assert_eq!((fig.key, fig.get(1), fig.get(2)), (&b"fig"[..], Some(&b"ripe"[..]), None));
+}
+
+#[test]
+fn threads_walk_ranges() {
+    let store = store();
+    let walks = [store.range(..&b"kiwi"[..]), store.range(&b"kiwi"[..]..&b"m"[..]), store.range(&b"m"[..]..)];
+    let counts =
+        thread::scope(|scope| walks.map(|walk| scope.spawn(|| walk.count())).map(|thread| thread.join().unwrap()));
+    assert_eq!(counts, [1, 2, 1]);
+}
+
+#[test]
+fn excluded_bounds_are_left_out() {
+    let (store, kiwi) = (store(), &b"kiwi"[..]);
+    assert_eq!(keys(&store, (Bound::Excluded(kiwi), Bound::Unbounded)), ["lime", "pear"]);
+    assert_eq!(keys(&store, (Bound::Excluded(kiwi), Bound::Included(&b"lime"[..]))), ["lime"]);
+}
+
+#[test]
+fn a_feed_takes_readers_and_writers() {
+    let bytes = example("a.mtl");
+    let (mut read, mut written) = (Feed::log().unwrap(), Feed::log().unwrap());
+    assert!(read.read_all(&bytes[..]).unwrap());
+    assert_eq!(io::copy(&mut &bytes[..], &mut written).unwrap(), bytes.len() as u64);
+    for feed in [read, written] {
+        let mut inputs = Inputs::new();
+        inputs.add(feed).unwrap();
+        assert!(inputs.recover().unwrap().range(..).eq(mtrecover::recover(&[&bytes], &[]).unwrap().range(..)));
+    }
+}
+
+#[test]
+fn a_reader_is_read_as_far_as_it_matters() {
+    let mut feed = Feed::log().unwrap();
+    assert!(!feed.read_all(io::repeat(b'x')).unwrap());
+    let folder = fs::File::open(env!("CARGO_MANIFEST_DIR")).unwrap();
+    assert!(Feed::log().unwrap().read_all(folder).is_err());
 }
 
 #[test]
@@ -163,8 +217,8 @@ fn pairs_longer_than_the_buffer_are_walked() {
     }
     records::mark(&mut log, 21).unwrap();
     let store = mtrecover::recover(&[&log], &[]).unwrap();
-    assert_eq!(store.pairs(b"").count(), 20);
-    assert!(store.pairs(b"").eq(store.range(..).map(Result::unwrap)));
+    assert_eq!(store.range(..).count(), 20);
+    assert!(store.into_iter().all(|pair| pair.columns[0].1 == value));
 }
 
 #[test]
@@ -217,7 +271,7 @@ fn a_torn_log_is_resumed() {
     let log = example("store/worker-1.mtl");
     let mut resumed = Vec::new();
     let told = records::resume_log(&mut resumed, &log, 40, 7).unwrap();
-    assert_eq!(told, Resumed { dropped: 1, format: Format::Two, changed: true, ended: false });
+    assert_eq!((told.dropped, told.format, told.changed, told.ended), (1, Format::Two, true, false));
     assert_eq!(mtrecover::recover(&[&resumed], &[]).unwrap().report().cutoff, 40);
     assert_eq!(records::resume_log(&mut resumed, b"x", 40, 7), Err(WriteError::NoLog));
 }
@@ -252,7 +306,7 @@ fn an_ended_log_says_so() {
     records::segment_header(&mut log, 0, 2, 1).unwrap();
     records::mark(&mut log, u64::MAX).unwrap();
     let told = records::resume_log(&mut resumed, &log, 40, 7).unwrap();
-    assert_eq!(told, Resumed { dropped: 0, format: Format::Two, changed: true, ended: true });
+    assert_eq!((told.dropped, told.format, told.changed, told.ended), (0, Format::Two, true, true));
 }
 
 /// A log of format 4 with these bytes in one block.
@@ -281,7 +335,7 @@ fn a_log_in_blocks_is_resumed_with_another_salt() {
     let (mut body, mut resumed) = (Vec::new(), Vec::new());
     records::mark(&mut body, 2).unwrap();
     let told = records::resume_log(&mut resumed, &sealed(3, &body), 2, 8).unwrap();
-    assert_eq!(told, Resumed { dropped: 0, format: Format::Two, changed: true, ended: false });
+    assert_eq!((told.dropped, told.format, told.changed, told.ended), (0, Format::Two, true, false));
     assert_eq!((&resumed[..4], resumed[11], resumed.len()), (&b"MTL4"[..], 8, 77));
 }
 

@@ -1,0 +1,1 @@
+../../../examples/server.rs
