@@ -10,6 +10,8 @@ UPDATES = 20_000
 BEGINS, ENDS, ADDED = UPDATES * 15 // 100, UPDATES * 25 // 100, UPDATES // 2
 # Each worker's format, and the updates at which its next segment begins.
 WORKERS = [(1, []), (1, []), (2, []), (2, []), (3, [UPDATES // 10, UPDATES * 6 // 10]), (3, [UPDATES // 2]), (3, []), (2, [])]
+# The workers of logs that are no segments have numbers from here on.
+PLAIN = 100
 # After so many updates each log gets a mark.
 BEAT = 400
 # The checkpoint's number, and the number of its parts.
@@ -21,7 +23,7 @@ ENOUGH = 8
 
 
 class Head(NamedTuple):
-    """A log's header. A log that is no segment has a worker and a segment here too."""
+    """A log's header. A log that is no segment has a worker here too, past those of segments, and a segment."""
 
     form: int
     start: int
@@ -148,7 +150,7 @@ def make_store(rng):
                 clock += 1
                 if files:
                     files[-1][1].append(new_record(clock))
-                files.append((Head(form, clock if files else 0, worker, len(files)), [new_record(clock)]))
+                files.append((Head(form, clock if files else 0, worker + PLAIN * (form < 3), len(files)), [new_record(clock)]))
         if done % BEAT == BEAT - 1:
             clock = mark_all(workers, clock)
         clock += rng.choice([0, 1, 1, 2])
@@ -156,7 +158,7 @@ def make_store(rng):
         history.append(random_update(rng, head.form, clock, done + 1))
         records.append(new_record(clock, history[-1]))
     mark_all(workers, clock)
-    logs = [log_of(f"w{head.worker}-{head.segment}.mtl", head, records) for files in workers.values() for head, records in files]
+    logs = [log_of(f"w{head.worker % PLAIN}-{head.segment}.mtl", head, records) for files in workers.values() for head, records in files]
     return Store(logs, make_checkpoint(history, begin, end))
 
 
@@ -322,6 +324,31 @@ def answer_of(store, lefts, bad_parts):
     first = [fault for some in faults for fault in some][:1]
     torn = list(states.values()).count("torn")
     return (first[0], None) if first else (None, found_in(now, chosen, torn, bad_parts))
+
+
+def heads_for(logs, log, is_headless):
+    """Returns the headers that `check` tries for the one of these logs that has lost its own, or has a gap before it."""
+    others = [other for other in logs if other.head.form == 3 and other.name != log.name]
+    places = {other.head[2:] for other in others}
+    if is_headless:
+        return [*heads_beside(others, places), Head(3, 0, min(set(range(PLAIN)) - {worker for worker, _ in places}), 0)]
+    start, worker, segment = log.head[1:]
+    earlier = [number + 1 for other, number in places if other == worker and number < segment]
+    head = log.head._replace(segment=max(earlier)) if earlier else log.head._replace(start=0)
+    before = [other for other in others if other.head.segment + 1 == segment and other.head.worker != worker]
+    return [head, *(log.head._replace(worker=other.head.worker) for other in before if other.last() == start)]
+
+
+def heads_beside(logs, places):
+    """Returns the headers of segments that are missing directly behind or before one of these logs, but behind a missing one."""
+    heads = []
+    for log in logs:
+        worker, segment = log.head[2:]
+        if (worker, segment + 1) not in places:
+            heads.append(Head(3, log.last(), worker, segment + 1))
+        if segment and not places & {(worker, segment - 1), (worker, segment - 2)}:
+            heads.append(Head(3, 0, worker, segment - 1))
+    return heads
 
 
 def lasts_of(logs):
