@@ -6,6 +6,7 @@ import random
 import re
 import shutil
 import struct
+from functools import lru_cache
 from typing import NamedTuple
 
 from blocks import header_of, length_at, read_part
@@ -304,34 +305,36 @@ class Truth:
     def __init__(self, updates, begin, entries):
         self.begin, self.entries = begin, entries
         self.store = store_of([update for update in updates if update.timestamp >= begin], entries)
+        self.lines = by_key(dump_lines(self.store))
         self.known = {record(update): update for update in updates}
         self.known.update({entry(key, *of_key): key for key, of_key in entries.items()})
         self.longest = max(map(len, self.known))
+        self.left_in = lru_cache(None)(self.read)
 
-    def left_in(self, content):
-        """Yields the updates, and the keys of entries, whose bytes are in these, wherever they lie."""
-        at = 0
-        while at < len(content):
-            end = at + 8 + int.from_bytes(content[at : at + 4], "big")
-            what = self.known.get(content[at:end]) if end <= at + self.longest else None
+    def read(self, content):
+        """Returns the updates, and the keys of entries, whose bytes are in these, wherever they lie, as they are or as text."""
+        text, left, at = text_of(content), set(), 0
+        while at < len(text):
+            end = at + 8 + int.from_bytes(text[at : at + 4], "big")
+            what = self.known.get(text[at:end]) if end <= at + self.longest else None
             at = at + 1 if what is None else end
             if what is not None:
-                yield what
+                left.add(what)
+        return left | (self.read(text.replace(b"\r\n", b"\n")) if b"\r\n" in text else set())
 
     def least(self, files):
-        """Returns how many keys are lost even if all counts that is left in these files, as it is or as text, from the checkpoint's
-        begin on or with all before it."""
-        texts = [text_of(content) for content in files.values() if content]
-        texts += [text.replace(b"\r\n", b"\n") for text in texts if b"\r\n" in text]
-        left = {what for text in texts for what in self.left_in(text)}
+        """Returns how many keys are lost even if all counts that is left in these files, from the checkpoint's begin on or, if an
+        entry is lost, with all before it."""
+        left = set().union(*(self.left_in(content) for content in files.values() if content))
         entries = {key: of_key for key, of_key in self.entries.items() if key in left}
         updates = [what for what in left if isinstance(what, Update)]
-        choices = [[update for update in updates if update.timestamp >= begin] for begin in (self.begin, 0)]
+        begins = {self.begin, 0 if len(entries) < len(self.entries) else self.begin}
+        choices = [[update for update in updates if update.timestamp >= begin] for begin in begins]
         return min(len(differing(self.store, store_of(choice, entries))) for choice in choices)
 
     def lost(self, dumped):
         """Returns how many keys a dump does not have alike."""
-        return len(differing(by_key(dump_lines(self.store)), by_key(dumped)))
+        return len(differing(self.lines, by_key(dumped)))
 
 
 def by_key(dumped):
@@ -483,7 +486,7 @@ def updates_of(store):
 
 
 def try_losses(work):
-    form = "{:34}{:38}{:24}{:>6}{:>6}  {:5} {}"
+    form = "{:34}{:38.36}{:24}{:>6}{:>6}  {:5} {}"
     print(form.format("damage", "it says", "the page's ways", "least", "lost", "", "").rstrip())
 
     def try_each(damages, truth, files):
