@@ -282,8 +282,7 @@ typedef struct mtr_lent {
 
 /* Takes all that was appended to the log since the last call, to be appended to its file by one write, and synced: of a file
  * of format 4 one block. From then on `buffer` holds these bytes. EARLY: those of the last call are not synced. WRONG: also
- * if `buffer` is not empty and holds no bytes. If it is empty, MEMORY may come
- * before a WRONG of the log. */
+ * if `buffer` is not empty and holds no bytes. If it is empty, MEMORY may come before a WRONG of the log. */
 uint32_t mtr_log_take(mtr_place *keeper, size_t log, mtr_place *buffer, mtr_lent *lent);
 
 /* Notes that all bytes taken of the log are in its file, which was synced since. */
