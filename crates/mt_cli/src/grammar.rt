@@ -97,7 +97,7 @@ pub const PIECES: Argument = argument! { "pieces", UpTo("P", MOST_PIECES as u64,
     "Cut the keys into at most this many ranges, which threads replay: 1 to 4096" };
 
 pub const WRITERS: Argument = argument! { "writers", From("N", 1, u64::MAX),
-    "How many writers there must be, where a worker's segments are one: other numbers are told, for --strict, resume and checkpoint as a loss" };
+    "How many writers there must be, where a worker's segments are one: other numbers are told, and are a loss for resume and checkpoint" };
 
 pub const VERBOSE: Argument = argument! { "verbose", Flag,
     "After a failure, print its file or the system's reason, and what to try; after an answer, what it lost; of a damaged log, what may have happened" };
@@ -226,8 +226,8 @@ const QUESTIONS: &[Subcommand] = subcommands! {
         "Example: mtrecover dump examples/store --workers 8";
 };
 
-/// The other subcommands, which follow them in the help.
-const OTHERS: &[Subcommand] = subcommands! {
+/// The subcommands that follow them in the help: those that read a folder.
+const READERS: &[Subcommand] = subcommands! {
     "shell", [FOLDER, WORKERS, FILES, FILE_BYTES, VERBOSE, PROGRESS, PIECES, STRICT_SHELL, STATUS, ERRORS],
         "Recovers once, then answers lines of standard input: report, get, history, range or dump, without DIR",
         "Example: printf 'get 666967\\ndump --json\\n' | mtrecover shell examples/store";
@@ -237,6 +237,10 @@ const OTHERS: &[Subcommand] = subcommands! {
     "check", [FOLDER, WORKERS, FILES, FILE_BYTES, VERBOSE, PROGRESS, WRITERS, JSON, CHART, WIDTH],
         "Prints what is in each log, part and checkpoint, all that is wrong, and where recovery begins",
         "Example: mtrecover check examples/store";
+};
+
+/// Those that change one, or make one.
+const CHANGERS: &[Subcommand] = subcommands! {
     "resume", [FOLDER, WORKERS, FILES, FILE_BYTES, VERBOSE, PROGRESS, WRITERS, JSON, STRICT_RESUME, DRY_RUN, NO_LOGS, MAX_LATE, ACCEPT_LOSS],
         "Makes the logs and parts those with which a server goes on after a crash; the store stays the same. The server must be down",
         "Example: mtrecover resume DIR --dry-run";
@@ -246,6 +250,10 @@ const OTHERS: &[Subcommand] = subcommands! {
     "forget", [FOLDER, WORKERS, FILES, FILE_BYTES, VERBOSE, PROGRESS],
         "Prints what the file LOSS of the folder notes as lost, and deletes it",
         "Example: mtrecover forget DIR";
+};
+
+/// Those that take no folder.
+const OTHERS: &[Subcommand] = subcommands! {
     "records", [LOG_OR_PART, VERBOSE, FROM, LIMIT, RECORD_KEY, AT, JSON],
         "Prints the records of a log, or the entries of a part, with their numbers and the bytes where they begin",
         "Example: mtrecover records examples/a.mtl --from 1 --limit 2";
@@ -272,17 +280,34 @@ pub fn grammar<'a>(alloc: Global) -> Result<Command<'a>, AllocError> {
         .arg_required_else_help(true)
         .subcommand_required(true)
         .bin_name("mtrecover")?;
-    for question in QUESTIONS {
-        program = program.subcommand(
-            question
-                .command(alloc, RECOVERY)?
-                .after_help(question.example),
-        )?;
-    }
-    for subcommand in OTHERS {
+    program = add_all(program, alloc, QUESTIONS, RECOVERY)?;
+    program = add_readers(program, alloc)?;
+    program = add_changers(program, alloc)?;
+    add_all(program, alloc, OTHERS, &[])
+}
+
+/// Adds the subcommands that read a folder. Err: out of memory.
+fn add_readers<'a>(program: Command<'a>, alloc: Global) -> Result<Command<'a>, AllocError> {
+    add_all(program, alloc, READERS, &[])
+}
+
+/// Adds the subcommands that change a folder, or make one. Err: out of memory.
+fn add_changers<'a>(program: Command<'a>, alloc: Global) -> Result<Command<'a>, AllocError> {
+    add_all(program, alloc, CHANGERS, &[])
+}
+
+/// Adds subcommands to the program, each with these arguments before its own. Err: out of memory.
+fn add_all<'a>(
+    program: Command<'a>,
+    alloc: Global,
+    subcommands: &[Subcommand],
+    before: &[Argument],
+) -> Result<Command<'a>, AllocError> {
+    let mut program = program;
+    for subcommand in subcommands {
         program = program.subcommand(
             subcommand
-                .command(alloc, &[])?
+                .command(alloc, before)?
                 .after_help(subcommand.example),
         )?;
     }
