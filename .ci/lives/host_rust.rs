@@ -53,7 +53,7 @@ extern "C" fn host_open(logs: u32, segment: u64, checkpoint: u64, last: &mut u64
     *last = opened.last;
     // SAFETY: the calls get a lawful key and value.
     unsafe { spare_memory() };
-    for pair in opened.store.iter().flat_map(|store| store.pairs(b"")) {
+    for pair in opened.store.iter().flatten() {
         let (key, value) = (&pair.key, &pair.columns[0].1);
         unsafe { recovered(key.as_ptr(), key.len(), value.as_ptr(), value.len()) };
     }
