@@ -333,7 +333,7 @@ fn try_file(name: &str) -> usize {
 
 #[test]
 fn cases_are_as_expected() {
-    let folder = concat!(env!("CARGO_MANIFEST_DIR"), "/tests/data/cases");
+    let folder = concat!(env!("CARGO_MANIFEST_DIR"), "/../../crates/mt_cases/data");
     let mut names: Vec<_> = fs::read_dir(folder).unwrap().map(|entry| entry.unwrap().path()).collect();
     names.sort();
     let mut count = 0;

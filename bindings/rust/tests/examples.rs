@@ -8,7 +8,7 @@ use std::ops::{Bound, RangeBounds};
 use std::thread;
 
 fn example(name: &str) -> Vec<u8> {
-    fs::read(format!("{}/tests/data/examples/{name}", env!("CARGO_MANIFEST_DIR"))).unwrap()
+    fs::read(format!("{}/../../examples/{name}", env!("CARGO_MANIFEST_DIR"))).unwrap()
 }
 
 fn fed(mut feed: Feed, bytes: &[u8]) -> Feed {
