@@ -1,144 +1,139 @@
--- Bytes have one list of stretches, which keep the records of a log.
-use Rattle.std.proofs.Common.{◌≡◌, ◌⊎◌, inl, inr, ℕ, ◌<◌, List, [], ◌∷◌, ◌++◌, length, refl, sym, ap, ◌∙◌, subst, append_assoc, arith}
+-- Bytes have one list of records or entries, which make a log or a part.
+use Rattle.std.proofs.Common.{◌≡◌, inl, inr, ℕ, ◌<◌, ◌^◌, List, [], ◌∷◌, ◌++◌, Bool, true, false, length, map, refl, sym, ap, ◌∙◌, subst, append_assoc, arith}
 use Rattle.std.proofs.lemmas.Bool.{cases_lt}
 use Rattle.std.proofs.lemmas.List.{length-append, append-nil}
-use Rattle.std.proofs.lemmas.Grind.{flat_map-append}
-use Rattle.std.specs.List.{flat_map}
+use Rattle.std.specs.List.{flat_map, AllByRecursion}
 use Rattle.mt_words.specs.declared.limits.Format.{Format}
 use Rattle.mt_words.specs.declared.limits.Limits.{Limits}
+use Rattle.mt_words.specs.declared.record.Change.{Change}
 use Rattle.mt_words.specs.Limits.{limits_of}
-use Rattle.mt_words.specs.Changes.{Logged}
+use Rattle.mt_words.specs.Changes.{Logged, IsEntry}
 use Rattle.mt_words.proofs.ColumnBytes.{same_split}
 use Rattle.mt_record.specs.Spelling.{spelling}
-use Rattle.mt_record.specs.Logs.{AreRecords, latest, IsLog}
+use Rattle.mt_record.specs.Logs.{AreRecords, IsLog}
 use Rattle.mt_record.specs.declared.feed.head.Head.{Head}
 use Rattle.mt_record.specs.Heads.{IsHead, head_bytes}
-use Rattle.mt_record.specs.declared.salvage.Stretch.{Stretch}
-use Rattle.mt_record.specs.Salvage.{GoOn, GoOnNowhere, AreKept, EndsKept, IsStretch, AreStretches, kept_bytes, spans, records_in}
-use Rattle.mt_record.proofs.Salvages.{same_next, kept_lawful}
+use Rattle.mt_record.specs.declared.part_text.PartHead.{PartHead}
+use Rattle.mt_record.specs.Parts.{part_head_bytes, IsPartHead, entry_spelling, footer_bytes, IsPart}
+use Rattle.mt_record.specs.declared.salvage.Items.{Items}
+use Rattle.mt_record.specs.declared.salvage.Items.TheVariants.{Records, Entries}
+use Rattle.mt_record.specs.declared.salvage.Found.{Found}
+use Rattle.mt_record.specs.Salvage.{IsItem, GoOn, enough_after, StartsNowhere, IsFirst, AreFound, AreFoundIn, bytes_of, spans, marked, NeverFall, KeepMost, salvaged_part}
+use Rattle.mt_record.proofs.Salvages.{item_some, same_item}
 
 -- ---- one list
 
--- no place at which records go on, nor the end, lies within what is skipped
-no_shorter : (limits : Limits) (low : ℕ) (a b x y : List ℕ) → a ++ x ≡ b ++ y → (x ≡ []) ⊎ GoOn limits low x → GoOnNowhere limits low (b ++ y) (length b) → length a < length b → ⊥
-no_shorter limits low a b x y e (inl none) nowhere less = omega (arith, less, ap length e, ap length none, length-append a x, length-append b y)
-no_shorter limits low a b x y e (inr goes) nowhere less = nowhere a x (sym e) less goes
-
--- so the same is skipped
-same_skipped : (limits : Limits) (low : ℕ) (a b x y : List ℕ) → a ++ x ≡ b ++ y → (x ≡ []) ⊎ GoOn limits low x → (y ≡ []) ⊎ GoOn limits low y
-    → GoOnNowhere limits low (a ++ x) (length a) → GoOnNowhere limits low (b ++ y) (length b) → (a ≡ b) × (x ≡ y)
-same_skipped limits low a b x y e ends_x ends_y first_a first_b =
+-- where items go on at a place of the bytes, but at none before, that is the same place
+same_skipped : (items : Items) (limits : Limits) (a b x y : List ℕ) → a ++ x ≡ b ++ y → GoOn items limits (enough_after (length a)) x → GoOn items limits (enough_after (length b)) y
+    → StartsNowhere items limits (a ++ x) (length a) → StartsNowhere items limits (b ++ y) (length b) → (a ≡ b) × (x ≡ y)
+same_skipped items limits a b x y e goes_x goes_y first_a first_b =
     elim (cases_lt (length a) (length b)) as (λ _. (a ≡ b) × (x ≡ y)) [
-      | inl less ↦ absurd (no_shorter limits low a b x y e ends_x first_b less)
+      | inl less ↦ absurd (first_b a x (sym e) less goes_x)
       | inr most ↦ elim (cases_lt (length b) (length a)) as (λ _. (a ≡ b) × (x ≡ y)) [
-        | inl less ↦ absurd (no_shorter limits low b a y x (sym e) ends_y first_a less)
+        | inl less ↦ absurd (first_a b y e less goes_y)
         | inr least ↦ same_split a b x y (omega (arith, most, least)) e
       ]
     ]
 
--- bytes begin with only one list of records that are kept
-same_kept : (format : Format) (low : ℕ) (rs ss : List Logged) (x y : List ℕ) → AreKept (limits_of format) low rs x → AreKept (limits_of format) low ss y
-    → flat_map spelling rs ++ x ≡ flat_map spelling ss ++ y → EndsKept (limits_of format) (latest low rs) x → EndsKept (limits_of format) (latest low ss) y → (rs ≡ ss) × (x ≡ y)
-same_kept format low [] [] x y are_r are_s e end_x end_y = (refl, e)
-same_kept format low [] (s ∷ ss) x y are_r are_s e end_x end_y =
-    let more = flat_map spelling ss ++ y in
-    absurd (are_s.2 (end_x s more (record { lawful = are_s.0; rises = are_s.1; spelled = e ∙ append_assoc (spelling s) (flat_map spelling ss) y })))
-same_kept format low (r ∷ rs) [] x y are_r are_s e end_x end_y =
-    let more = flat_map spelling rs ++ x in
-    absurd (are_r.2 (end_y r more (record { lawful = are_r.0; rises = are_r.1; spelled = sym e ∙ append_assoc (spelling r) (flat_map spelling rs) x })))
-same_kept format low (r ∷ rs) (s ∷ ss) x y are_r are_s e end_x end_y =
+-- an item is not where none is
+no_more : (items : Items) (format : Format) (bytes : List ℕ) (found : Found) (after : List ℕ) → StartsNowhere items (limits_of format) bytes (length bytes)
+    → IsFirst items (limits_of format) bytes found after → ⊥
+no_more items format bytes found after nowhere is =
+    let some = item_some items format found.timestamp found.bytes.now is.is in
+    nowhere found.skipped.now (found.bytes.now ++ after) is.spelled
+    (omega (arith, some, ap length is.spelled, length-append found.skipped.now (found.bytes.now ++ after), length-append found.bytes.now after)) is.starts
+
+-- bytes have only one list of items
+pub one_list : (items : Items) (format : Format) (bytes : List ℕ) (found others : List Found) → AreFound items (limits_of format) bytes found → AreFound items (limits_of format) bytes others
+    → spans found ≡ spans others
+one_list items format bytes [] [] a b = refl
+one_list items format bytes [] (t ∷ ts) a b = absurd (no_more items format bytes t b.0 a b.1)
+one_list items format bytes (s ∷ ss) [] a b = absurd (no_more items format bytes s a.0 b a.1)
+one_list items format bytes (s ∷ ss) (t ∷ ts) a b =
     let limits = limits_of format in
-    let apart = sym (append_assoc (spelling r) (flat_map spelling rs) x) ∙ e ∙ append_assoc (spelling s) (flat_map spelling ss) y in
-    let same = same_next format r s (flat_map spelling rs ++ x) (flat_map spelling ss ++ y) are_r.0 are_s.0 apart in
-    let time : s.timestamp ≡ r.timestamp = ap (λ (l : Logged). l.timestamp) (sym same.0) in
-    let are = subst (λ (t : ℕ). AreKept limits t ss y) time are_s.3 in
-    let end = subst (λ (t : ℕ). EndsKept limits (latest t ss) y) time end_y in
-    let rest = same_kept format r.timestamp rs ss x y are_r.3 are same.1 end_x end in
-    (λ i. same.0 i ∷ rest.0 i, rest.1)
+    let first_a = subst (λ (x : List ℕ). StartsNowhere items limits x (length s.skipped.now)) a.1.spelled a.1.nowhere in
+    let first_b = subst (λ (x : List ℕ). StartsNowhere items limits x (length t.skipped.now)) b.1.spelled b.1.nowhere in
+    let gap = same_skipped items limits s.skipped.now t.skipped.now (s.bytes.now ++ a.0) (t.bytes.now ++ b.0) (sym a.1.spelled ∙ b.1.spelled) a.1.starts b.1.starts first_a first_b in
+    let same = same_item items format s.timestamp t.timestamp s.bytes.now t.bytes.now a.0 b.0 a.1.is b.1.is gap.1 in
+    let others = one_list items format b.0 ss ts (subst (λ (x : List ℕ). AreFound items limits x ss) same.1 a.2) b.2 in
+    λ i. (gap.0 i, same.0 i) ∷ others i
 
--- what two first stretches of the same bytes share
-pub record AreAlike (low : ℕ) (stretch other : Stretch) (records others : List Logged) (more left : List ℕ) : Type 0 where
-  pub kept : stretch.kept.now ≡ other.kept.now
-  pub skipped : stretch.skipped.now ≡ other.skipped.now
-  pub last : latest low records ≡ latest low others
-  pub more_is : more ≡ left
-
-alike : (format : Format) (low : ℕ) (bytes : List ℕ) (s t : Stretch) → (a : IsStretch (limits_of format) low bytes s) → (b : IsStretch (limits_of format) low bytes t)
-    → AreAlike low s t a.records b.records a.more b.more
-alike format low bytes s t a b =
-    let limits = limits_of format in
-    let same = same_kept format low a.records b.records (s.skipped.now ++ a.more) (t.skipped.now ++ b.more) a.are_kept b.are_kept (sym a.spelled ∙ b.spelled) a.all b.all in
-    let last : latest low a.records ≡ latest low b.records = ap (latest low) same.0 in
-    let ends = subst (λ (n : ℕ). (a.more ≡ []) ⊎ GoOn limits n a.more) last a.ends in
-    let first = subst (λ (n : ℕ). GoOnNowhere limits n (s.skipped.now ++ a.more) (length s.skipped.now)) last a.first in
-    let gap = same_skipped limits (latest low b.records) s.skipped.now t.skipped.now a.more b.more same.1 ends b.ends first b.first in
-    record {
-      kept = a.kept ∙ ap (flat_map spelling) same.0 ∙ sym b.kept;
-      skipped = gap.0;
-      last = last;
-      more_is = gap.1;
-    }
-
--- bytes have only one list of stretches
-pub one_salvage_of : (format : Format) (low : ℕ) (bytes : List ℕ) (stretches others : List Stretch) → AreStretches (limits_of format) low bytes stretches
-    → AreStretches (limits_of format) low bytes others → spans stretches ≡ spans others
-one_salvage_of format low bytes [] [] a b = refl
-one_salvage_of format low bytes [] (t ∷ ts) a b = absurd (omega (arith, ap length a, b.0))
-one_salvage_of format low bytes (s ∷ ss) [] a b = absurd (omega (arith, ap length b, a.0))
-one_salvage_of format low bytes (s ∷ ss) (t ∷ ts) a b =
-    let same = alike format low bytes s t a.1.0 b.1.0 in
-    let rest = subst (λ (p : ℕ × List ℕ). AreStretches (limits_of format) p.0 p.1 ss) (λ i. (same.last i, same.more_is i)) a.1.1 in
-    let others = one_salvage_of format (latest low b.1.0.records) b.1.0.more ss ts rest b.1.1 in
-    λ i. (same.kept i, same.skipped i) ∷ others i
+-- the bytes are the items and those that are skipped, in order
+pub in_order : (items : Items) (limits : Limits) (bytes : List ℕ) (found : List Found) → AreFound items limits bytes found
+    → (rest : List ℕ) × (bytes ≡ flat_map (λ (s : Found). s.skipped.now ++ s.bytes.now) found ++ rest)
+in_order items limits bytes [] are = (bytes, refl)
+in_order items limits bytes (s ∷ ss) are =
+    let after = in_order items limits are.0 ss are.2 in
+    let others = flat_map (λ (s : Found). s.skipped.now ++ s.bytes.now) ss in (
+      after.0,
+      are.1.spelled ∙ ap (λ (x : List ℕ). s.skipped.now ++ (s.bytes.now ++ x)) after.1 ∙ sym (append_assoc s.skipped.now s.bytes.now (others ++ after.0))
+          ∙ sym (append_assoc (s.skipped.now ++ s.bytes.now) others after.0),
+    )
 
 -- ---- what is kept
 
--- records, and others that are not below the last of them
-records_on : (limits : Limits) (low : ℕ) (rs ss : List Logged) → AreRecords limits low rs → AreRecords limits (latest low rs) ss → AreRecords limits low (rs ++ ss)
-records_on limits low [] ss are on = on
-records_on limits low (r ∷ rs) ss are on = (are.0, are.1, records_on limits r.timestamp rs ss are.2 on)
+abbrev AreItems : Items → Limits → List Found → Type 0
+AreItems items limits found = AllByRecursion (λ (s : Found). IsItem items limits s.timestamp s.bytes.now) found
 
--- The bytes that the stretches of these bytes keep are the encodings of these records, in their order.
-pub record AreKeptOf (limits : Limits) (low : ℕ) (stretches : List Stretch) (records : List Logged) : Type 0 where
-  pub kept : kept_bytes stretches ≡ flat_map spelling records
-  pub lawful : AreRecords limits low records
-  pub count : records_in stretches ≡ length records
+are_items : (items : Items) (limits : Limits) (bytes : List ℕ) (found : List Found) → AreFound items limits bytes found → AreItems items limits found
+are_items items limits bytes [] are = tt
+are_items items limits bytes (s ∷ ss) are = (are.1.is, are_items items limits are.0 ss are.2)
 
--- the stretches keep lawful records
-pub kept_of_stretches : (limits : Limits) (low : ℕ) (bytes : List ℕ) (stretches : List Stretch) → AreStretches limits low bytes stretches
-    → (records : List Logged) × AreKeptOf limits low stretches records
-kept_of_stretches limits low bytes [] are = ([], record { kept = refl; lawful = tt; count = refl })
-kept_of_stretches limits low bytes (s ∷ ss) are =
-    let is = are.1.0 in
-    let rest = kept_of_stretches limits (latest low is.records) is.more ss are.1.1 in (
-      is.records ++ rest.0,
-      record {
-        kept = (λ i. is.kept i ++ rest.1.kept i) ∙ sym (flat_map-append spelling is.records rest.0);
-        lawful = records_on limits low is.records rest.0 (kept_lawful limits low is.records (s.skipped.now ++ is.more) is.are_kept) rest.1.lawful;
-        count = omega (arith, is.count, rest.1.count, length-append is.records rest.0);
-      },
-    )
+items_on : (items : Items) (limits : Limits) (xs ys : List Found) → AreItems items limits xs → AreItems items limits ys → AreItems items limits (xs ++ ys)
+items_on items limits [] ys are on = on
+items_on items limits (x ∷ xs) ys are on = (are.0, items_on items limits xs ys are.1 on)
 
--- the bytes are those that are kept and those that are skipped, in order
-pub in_order_of : (limits : Limits) (low : ℕ) (bytes : List ℕ) (stretches : List Stretch) → AreStretches limits low bytes stretches
-    → bytes ≡ flat_map (λ (s : Stretch). s.kept.now ++ s.skipped.now) stretches
-in_order_of limits low bytes [] are = are
-in_order_of limits low bytes (s ∷ ss) are =
-    let is = are.1.0 in
-    let rest = in_order_of limits (latest low is.records) is.more ss are.1.1 in
-    is.spelled ∙ (λ i. sym is.kept i ++ (s.skipped.now ++ rest i)) ∙ sym (append_assoc s.kept.now s.skipped.now (flat_map (λ (s : Stretch). s.kept.now ++ s.skipped.now) ss))
+items_in : (items : Items) (limits : Limits) (pieces : List (List ℕ)) (found : List Found) → AreFoundIn items limits pieces found → AreItems items limits found
+items_in items limits [] found are = subst (AreItems items limits) (sym are) tt
+items_in items limits (piece ∷ pieces) found are =
+    subst (AreItems items limits) (sym are.2) (items_on items limits are.0 are.1 (are_items items limits piece are.0 are.3) (items_in items limits pieces are.1 are.4))
 
--- so what is kept is a log, after a header
-pub salvaged_log : (head : Head) (bytes : List ℕ) (stretches : List Stretch) → IsHead head → AreStretches (limits_of head.format) 0 bytes stretches
-    → (records : List Logged) × IsLog (head_bytes head ++ kept_bytes stretches) head records [] × (records_in stretches ≡ length records)
-salvaged_log head bytes stretches is_head are =
-    let kept = kept_of_stretches (limits_of head.format) 0 bytes stretches are in (
+-- marked records whose timestamps never fall
+kept_records : (limits : Limits) (low : ℕ) (marks : List Bool) (found : List Found) → AreItems Records limits found → NeverFall low (marked marks (map (λ (s : Found). s.timestamp) found))
+    → (records : List Logged) × AreRecords limits low records × (bytes_of (marked marks found) ≡ flat_map spelling records) × (length records ≡ length (marked marks found))
+kept_records limits low [] found are rise = ([], tt, refl, refl)
+kept_records limits low (b ∷ bs) [] are rise = ([], tt, refl, refl)
+kept_records limits low (false ∷ bs) (s ∷ ss) are rise = kept_records limits low bs ss are.1 rise
+kept_records limits low (true ∷ bs) (s ∷ ss) are rise =
+    let r = are.0.0 in
+    let rest = kept_records limits r.timestamp bs ss are.1 (subst (λ (t : ℕ). NeverFall t (marked bs (map (λ (s : Found). s.timestamp) ss))) are.0.2 rise.1) in
+    (r ∷ rest.0, (are.0.1, omega (arith, rise.0, are.0.2), rest.1), λ i. are.0.3 i ++ rest.2 i, omega (arith, rest.3))
+
+-- so they make a log
+pub salvaged_log : (head : Head) (pieces : List (List ℕ)) (found : List Found) (marks : List Bool) → IsHead head → AreFoundIn Records (limits_of head.format) pieces found
+    → KeepMost (map (λ (s : Found). s.timestamp) found) marks
+    → (records : List Logged) × IsLog (head_bytes head ++ bytes_of (marked marks found)) head records [] × (length records ≡ length (marked marks found))
+salvaged_log head pieces found marks is_head are keep =
+    let kept = kept_records (limits_of head.format) 0 marks found (items_in Records (limits_of head.format) pieces found are) keep.rise in (
       kept.0,
       record {
-        spelled = ap (λ (x : List ℕ). head_bytes head ++ x) (kept.1.kept ∙ sym (append-nil (flat_map spelling kept.0)));
+        spelled = ap (λ (x : List ℕ). head_bytes head ++ x) (kept.2 ∙ sym (append-nil (flat_map spelling kept.0)));
         is_head = is_head;
-        lawful = kept.1.lawful;
+        lawful = kept.1;
         ends = inl refl;
       },
-      kept.1.count,
+      kept.3,
+    )
+
+entries_of : (limits : Limits) (found : List Found) → AreItems Entries limits found
+    → (changes : List Change) × AllByRecursion (IsEntry limits) changes × (bytes_of found ≡ flat_map entry_spelling changes) × (length changes ≡ length found)
+entries_of limits [] are = ([], tt, refl, refl)
+entries_of limits (s ∷ ss) are =
+    let rest = entries_of limits ss are.1 in
+    (are.0.0 ∷ rest.0, (are.0.1, rest.1), λ i. are.0.3 i ++ rest.2 i, omega (arith, rest.3))
+
+-- so they make a part
+pub part_of : (head : PartHead) (pieces : List (List ℕ)) (entries : List Found) (end : ℕ) → IsPartHead head → end < 2 ^ 64 → AreFoundIn Entries (limits_of head.format) pieces entries
+    → length entries < 2 ^ 32 → (changes : List Change) × IsPart (salvaged_part head entries end) head changes end × (length changes ≡ length entries)
+part_of head pieces entries end is_head fits are few =
+    let kept = entries_of (limits_of head.format) entries (items_in Entries (limits_of head.format) pieces entries are) in (
+      kept.0,
+      record {
+        spelled = λ i. part_head_bytes head ++ (kept.2 i ++ footer_bytes end (sym kept.3 i));
+        is_head = is_head;
+        lawful = kept.1;
+        fits = fits;
+        count = omega (arith, few, kept.3);
+      },
+      kept.3,
     )

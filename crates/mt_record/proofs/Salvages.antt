@@ -1,337 +1,269 @@
--- Salvaging a damaged log.
-use Rattle.std.proofs.Common.{◌≡◌, ◌⊎◌, inl, inr, ℕ, ◌+◌, ◌<◌, ◌≤◌, List, [], ◌∷◌, ◌++◌, length, take, drop, refl, sym, ap, ◌∙◌, subst, append_assoc, arith}
-use Rattle.std.proofs.lemmas.Bool.{cases_lt}
-use Rattle.std.proofs.lemmas.List.{length-append, nil_from_length, flat_map_more, length-take-le, take-append-drop}
+-- Salvaging a damaged log or a broken part.
+use Rattle.std.proofs.Common.{◌≡◌, ◌⊎◌, inl, inr, ℕ, ◌+◌, ◌-◌, ◌^◌, ◌<◌, ◌≤◌, List, [], ◌∷◌, ◌++◌, length, take, drop, refl, sym, ap, ◌∙◌, subst, append_assoc, arith}
+use Rattle.std.proofs.lemmas.List.{length-append, length-drop, length-take-le, take-append-drop}
 use Rattle.std.proofs.Math.Seq.{take-append_seam, drop-append_seam}
 use Rattle.std.specs.List.{flat_map, AllByRecursion}
 use Rattle.mt_words.specs.declared.limits.Format.{Format}
 use Rattle.mt_words.specs.declared.limits.Limits.{Limits}
 use Rattle.mt_words.specs.declared.fault.What.{What}
 use Rattle.mt_words.specs.Limits.{limits_of}
-use Rattle.mt_words.specs.Changes.{Logged, IsLawful}
-use Rattle.mt_record.specs.Spelling.{body, spelling}
-use Rattle.mt_record.specs.Logs.{AreRecords, latest, IsTorn}
-use Rattle.mt_record.specs.Fronts.{IsNext, Stops}
+use Rattle.mt_words.specs.Changes.{Logged}
+use Rattle.mt_record.specs.declared.salvage.Items.{Items}
+use Rattle.mt_record.specs.declared.salvage.Items.TheVariants.{Records, Entries}
+use Rattle.mt_record.specs.declared.salvage.Found.{Found}
+use Rattle.mt_record.specs.Spelling.{change_bytes, body, spelling, framed}
 use Rattle.mt_record.specs.LogFaults.{RestFault}
-use Rattle.mt_record.specs.declared.salvage.Stretch.{Stretch}
-use Rattle.mt_record.specs.declared.salvage.Front.{Front}
-use Rattle.mt_record.specs.Salvage.{GoOn, GoOnNowhere, StandsOut, AreKept, EndsKept, IsStretch, AreStretches}
-use Rattle.mt_record.specs.Steps.Salvages.{HasNumbers, IsFront}
-use Rattle.mt_record.proofs.Records.{latest_push}
-use Rattle.mt_record.proofs.Unique.{same_body, same_framed}
-use Rattle.mt_record.proofs.Lawful.{length_fits, lawful_fits, lawful_length}
-use Rattle.mt_record.proofs.OneFault.{fault_stops, end_stops, fault_no_end}
+use Rattle.mt_record.specs.Parts.{entry_spelling}
+use Rattle.mt_record.specs.PartTexts.{IsEntryLength}
+use Rattle.mt_record.specs.PartFeeding.{ShowsNoEntry}
+use Rattle.mt_record.specs.Steps.Bodies.{IsNextBody, IsNextEntry}
+use Rattle.mt_record.specs.Steps.Salvages.{IsNextItem, HasNoItem, IsFault}
+use Rattle.mt_record.specs.Salvage.{IsItem, IsSomeItem, IsItemLength, IsEnd, GoOn, enough_after, StartsNowhere, IsFirst, AreFound}
+use Rattle.mt_record.proofs.Unique.{same_framed, length_framed}
+use Rattle.mt_record.proofs.Lawful.{length_fits, lawful_length}
+use Rattle.mt_record.proofs.Entries.{entry_length, short_entry}
+use Rattle.mt_record.proofs.OneFault.{fault_stops, fault_no_end}
+use Rattle.mt_record.proofs.Frames.{body_frame, frame_begins, wrong_begins, none_begins}
+use Rattle.mt_record.proofs.PartFrontLemmas.{no_entry_found}
 
--- ---- whether records go on
+-- ---- items
 
--- bytes begin with only one record
-pub same_next : (format : Format) (r s : Logged) (x y : List ℕ) → IsLawful (limits_of format) r → IsLawful (limits_of format) s → spelling r ++ x ≡ spelling s ++ y
-    → (r ≡ s) × (x ≡ y)
-same_next format r s x y is_r is_s e =
-    let short_r = length_fits format (length (body r)) (lawful_length (limits_of format) r is_r) in
-    let short_s = length_fits format (length (body s)) (lawful_length (limits_of format) s is_s) in
-    let same = same_framed (body r) (body s) x y short_r short_s e in
-    (same_body r s (lawful_fits format r is_r) (lawful_fits format s is_s) same.0, same.1)
+-- an item is a body in its frame
+framing : (items : Items) (format : Format) (timestamp : ℕ) (item : List ℕ) → IsItem items (limits_of format) timestamp item
+    → (fields : List ℕ) × IsItemLength items (limits_of format) (length fields) × (item ≡ framed fields)
+framing Records format timestamp item is = (body is.0, lawful_length (limits_of format) is.0 is.1, is.3)
+framing Entries format timestamp item is = (change_bytes is.0, entry_length (limits_of format) is.0 is.1, is.3)
 
--- so many records in all, or nothing but a torn tail behind them
-abbrev IsEnough : Limits → ℕ → List ℕ → Type 0
-IsEnough limits n after = (8 ≤ n) ⊎ ((after ≡ []) ⊎ IsTorn limits after)
+short_item : (items : Items) (format : Format) (n : ℕ) → IsItemLength items (limits_of format) n → n < 2 ^ 32
+short_item Records format n is = length_fits format n is
+short_item Entries format n is = short_entry format n is
 
--- records go on after `n` records, of which the last has the timestamp `low`
-pub record GoOnAfter (limits : Limits) (low n : ℕ) (bytes : List ℕ) : Type 0 where
-  pub records : List Logged
-  pub after : List ℕ
-  pub spelled : bytes ≡ flat_map spelling records ++ after
-  pub lawful : AreRecords limits low records
-  pub some : 0 < n + length records
-  pub enough : IsEnough limits (n + length records) after
+-- it is not empty
+pub item_some : (items : Items) (format : Format) (timestamp : ℕ) (item : List ℕ) → IsItem items (limits_of format) timestamp item → 0 < length item
+item_some items format timestamp item is =
+    let f = framing items format timestamp item is in
+    omega (arith, ap length f.2, length_framed f.0)
 
-as_many : (limits : Limits) (n m : ℕ) (after : List ℕ) → n ≡ m → IsEnough limits n after → IsEnough limits m after
-as_many limits n m after same enough = subst (λ (k : ℕ). IsEnough limits k after) same enough
+-- bytes begin with only one item
+pub same_item : (items : Items) (format : Format) (t u : ℕ) (a b x y : List ℕ) → IsItem items (limits_of format) t a → IsItem items (limits_of format) u b → a ++ x ≡ b ++ y → (a ≡ b) × (x ≡ y)
+same_item items format t u a b x y is_a is_b e =
+    let f = framing items format t a is_a in
+    let g = framing items format u b is_b in
+    let same = same_framed f.0 g.0 x y (short_item items format (length f.0) f.1) (short_item items format (length g.0) g.1) ((λ i. sym f.2 i ++ x) ∙ e ∙ λ i. g.2 i ++ y) in
+    (f.2 ∙ ap framed same.0 ∙ sym g.2, same.1)
 
--- none were read yet
-pub go_on_begins : (limits : Limits) (low : ℕ) (bytes : List ℕ) → GoOn limits low bytes → GoOnAfter limits low 0 bytes
-go_on_begins limits low bytes h = record {
-  records = h.records;
-  after = h.after;
-  spelled = h.spelled;
-  lawful = h.lawful;
-  some = omega (arith, h.some);
-  enough = as_many limits (length h.records) (0 + length h.records) h.after (omega arith) h.enough;
+-- an end begins with none
+end_no_item : (items : Items) (format : Format) (rest : List ℕ) → IsEnd items (limits_of format) rest → HasNoItem items (limits_of format) rest
+end_no_item items format rest ends timestamp item after is e =
+    let f = framing items format timestamp item is in
+    none_begins (IsItemLength items (limits_of format)) (short_item items format) rest ends
+    (frame_begins (IsItemLength items (limits_of format)) (short_item items format) rest
+    (body_frame (IsItemLength items (limits_of format)) (short_item items format) rest f.0 after f.1 (e ∙ ap (λ (x : List ℕ). x ++ after) f.2)))
+
+-- bytes that show that no entry is at their front do not end there
+shown_no_end : (format : Format) (rest : List ℕ) → ShowsNoEntry (limits_of format) rest → IsEnd Entries (limits_of format) rest → ⊥
+shown_no_end format rest (inl wrong) ends = none_begins (IsEntryLength (limits_of format)) (short_entry format) rest ends (wrong_begins (IsEntryLength (limits_of format)) (short_entry format) rest wrong)
+shown_no_end format rest (inr wrong) ends = none_begins (IsEntryLength (limits_of format)) (short_entry format) rest ends (frame_begins (IsEntryLength (limits_of format)) (short_entry format) rest wrong.0)
+
+-- what was found at the front
+pub record_fault : (format : Format) (bytes : List ℕ) (what : What) → RestFault what (limits_of format) 0 bytes → IsFault Records (limits_of format) bytes
+record_fault format bytes what fault = record {
+  no_item = λ t item after is e. fault_stops format 0 bytes what fault is.0 after is.1 (omega arith) (e ∙ ap (λ (x : List ℕ). x ++ after) is.3);
+  no_end = fault_no_end format 0 bytes what fault;
 }
 
-pub go_on_begun : (limits : Limits) (low : ℕ) (bytes : List ℕ) → GoOnAfter limits low 0 bytes → GoOn limits low bytes
-go_on_begun limits low bytes h = record {
-  records = h.records;
-  after = h.after;
-  spelled = h.spelled;
-  lawful = h.lawful;
-  some = omega (arith, h.some);
-  enough = as_many limits (0 + length h.records) (length h.records) h.after (omega arith) h.enough;
+pub entry_fault : (format : Format) (bytes : List ℕ) → ShowsNoEntry (limits_of format) bytes → IsFault Entries (limits_of format) bytes
+entry_fault format bytes shown = record {
+  no_item = λ t item after is e. no_entry_found format bytes shown is.0 after is.1 (e ∙ ap (λ (x : List ℕ). x ++ after) is.3);
+  no_end = shown_no_end format bytes shown;
 }
 
--- one record more was read
-pub go_on_read : (format : Format) (low n : ℕ) (bytes after : List ℕ) (r : Logged) → IsNext (limits_of format) low bytes r after → n < 8
-    → GoOnAfter (limits_of format) low n bytes → GoOnAfter (limits_of format) r.timestamp (n + 1) after
-go_on_read format low n bytes after r next few h = by h.records h.after h.spelled h.lawful h.enough
-  where
-    limits : Limits
-    limits = limits_of format
+pub record_next : (limits : Limits) (bytes : List ℕ) (timestamp : ℕ) (found after : List ℕ) → IsNextBody limits 0 bytes timestamp found after → IsNextItem Records limits bytes timestamp after
+record_next limits bytes timestamp found after h = record { item = spelling h.next; is = (h.next, h.is_next.lawful, h.same_time, refl); spelled = h.is_next.spelled }
 
-    by : (ss : List Logged) (x : List ℕ) → bytes ≡ flat_map spelling ss ++ x → AreRecords limits low ss → IsEnough limits (n + length ss) x → GoOnAfter limits r.timestamp (n + 1) after
-    by [] x e are (inl many) = absurd (omega (arith, few, many))
-    by [] x e are (inr ends) = absurd (end_stops format low x ends r after next.lawful next.rises (sym e ∙ next.spelled))
-    by (s ∷ ss) x e are enough =
-        let same = same_next format r s after (flat_map spelling ss ++ x) next.lawful are.0 (sym next.spelled ∙ e ∙ append_assoc (spelling s) (flat_map spelling ss) x) in
-        record {
-          records = ss;
-          after = x;
-          spelled = same.1;
-          lawful = subst (λ (q : Logged). AreRecords limits q.timestamp ss) (sym same.0) are.2;
-          some = omega arith;
-          enough = as_many limits (n + length (s ∷ ss)) ((n + 1) + length ss) x (omega arith) enough;
-        }
+pub entry_next : (limits : Limits) (bytes fields after : List ℕ) → IsNextEntry limits bytes fields after → IsNextItem Entries limits bytes 0 after
+entry_next limits bytes fields after h = record { item = entry_spelling h.next; is = (h.next, h.fields.lawful, refl, refl); spelled = h.spelled ∙ ap (λ (x : List ℕ). framed x ++ after) h.fields.spelled }
 
-pub go_on_unread : (limits : Limits) (low n : ℕ) (bytes after : List ℕ) (r : Logged) → IsNext limits low bytes r after
-    → GoOnAfter limits r.timestamp (n + 1) after → GoOnAfter limits low n bytes
-go_on_unread limits low n bytes after r next h = record {
-  records = r ∷ h.records;
-  after = h.after;
-  spelled = next.spelled ∙ ap (λ (x : List ℕ). spelling r ++ x) h.spelled ∙ sym (append_assoc (spelling r) (flat_map spelling h.records) h.after);
-  lawful = (next.lawful, next.rises, h.lawful);
-  some = omega arith;
-  enough = as_many limits ((n + 1) + length h.records) (n + length (r ∷ h.records)) h.after (omega arith) h.enough;
-}
+-- ---- whether items go on
 
--- enough were read
-pub go_on_enough : (limits : Limits) (low n : ℕ) (bytes : List ℕ) → 8 ≤ n → GoOnAfter limits low n bytes
-go_on_enough limits low n bytes many = record {
-  records = [];
-  after = bytes;
-  spelled = refl;
-  lawful = tt;
-  some = omega (arith, many);
-  enough = inl (omega (arith, many));
-}
+module _ (items : Items) (format : Format) (enough : ℕ) where
+  -- so many items in all, or an end behind them
+  abbrev AreMany : ℕ → List ℕ → Type 0
+  AreMany n after = (enough ≤ n) ⊎ IsEnd items (limits_of format) after
 
--- the bytes end, after some records
-pub go_on_ends : (limits : Limits) (low n : ℕ) (bytes : List ℕ) → (bytes ≡ []) ⊎ IsTorn limits bytes → 0 < n → GoOnAfter limits low n bytes
-go_on_ends limits low n bytes ends some = record {
-  records = [];
-  after = bytes;
-  spelled = refl;
-  lawful = tt;
-  some = omega (arith, some);
-  enough = inr ends;
-}
+  -- items go on after `n` of them
+  pub record GoOnAfter (n : ℕ) (bytes : List ℕ) : Type 0 where
+    pub row : List (List ℕ)
+    pub after : List ℕ
+    pub spelled : bytes ≡ flat_map (λ (item : List ℕ). item) row ++ after
+    pub are : AllByRecursion (IsSomeItem items (limits_of format)) row
+    pub some : 0 < n + length row
+    pub many : AreMany (n + length row) after
 
--- at the end there were some
-pub go_on_ended : (format : Format) (low n : ℕ) (bytes : List ℕ) → (bytes ≡ []) ⊎ IsTorn (limits_of format) bytes → GoOnAfter (limits_of format) low n bytes → 0 < n
-go_on_ended format low n bytes ends h = by h.records h.spelled h.lawful h.some
-  where
-    by : (ss : List Logged) → bytes ≡ flat_map spelling ss ++ h.after → AreRecords (limits_of format) low ss → 0 < n + length ss → 0 < n
-    by [] e are some = omega (arith, some)
-    by (s ∷ ss) e are some = absurd (end_stops format low bytes ends s (flat_map spelling ss ++ h.after) are.0 are.1 (e ∙ append_assoc (spelling s) (flat_map spelling ss) h.after))
+  as_many : (n m : ℕ) (after : List ℕ) → n ≡ m → AreMany n after → AreMany m after
+  as_many n m after same many = subst (λ (k : ℕ). AreMany k after) same many
 
--- after a fault they do not go on, unless there were enough
-pub go_on_fault : (format : Format) (low n : ℕ) (bytes : List ℕ) (what : What) → RestFault what (limits_of format) low bytes → n < 8 → GoOnAfter (limits_of format) low n bytes → ⊥
-go_on_fault format low n bytes what fault few h = by h.records h.after h.spelled h.lawful h.enough
-  where
-    by : (ss : List Logged) (x : List ℕ) → bytes ≡ flat_map spelling ss ++ x → AreRecords (limits_of format) low ss → IsEnough (limits_of format) (n + length ss) x → ⊥
-    by [] x e are (inl many) = omega (arith, few, many)
-    by [] x e are (inr ends) = fault_no_end format low x what (subst (RestFault what (limits_of format) low) e fault) ends
-    by (s ∷ ss) x e are enough = fault_stops format low bytes what fault s (flat_map spelling ss ++ x) are.0 are.1 (e ∙ append_assoc (spelling s) (flat_map spelling ss) x)
+  -- none were read yet
+  pub go_on_begins : (bytes : List ℕ) → GoOn items (limits_of format) enough bytes → GoOnAfter 0 bytes
+  go_on_begins bytes h = record {
+    row = h.row;
+    after = h.after;
+    spelled = h.spelled;
+    are = h.are;
+    some = omega (arith, h.some);
+    many = as_many (length h.row) (0 + length h.row) h.after (omega arith) h.many;
+  }
 
--- ---- places
+  pub go_on_begun : (bytes : List ℕ) → GoOnAfter 0 bytes → GoOn items (limits_of format) enough bytes
+  go_on_begun bytes h = record {
+    row = h.row;
+    after = h.after;
+    spelled = h.spelled;
+    are = h.are;
+    some = omega (arith, h.some);
+    many = as_many (0 + length h.row) (length h.row) h.after (omega arith) h.many;
+  }
 
--- ---- what is kept
+  -- one item more was read
+  pub go_on_read : (n : ℕ) (bytes : List ℕ) (timestamp : ℕ) (after : List ℕ) → IsNextItem items (limits_of format) bytes timestamp after → n < enough → GoOnAfter n bytes → GoOnAfter (n + 1) after
+  go_on_read n bytes timestamp after next few h = by h.row h.after h.spelled h.are h.many
+    where
+      by : (row : List (List ℕ)) (x : List ℕ) → bytes ≡ flat_map (λ (item : List ℕ). item) row ++ x → AllByRecursion (IsSomeItem items (limits_of format)) row → AreMany (n + length row) x
+          → GoOnAfter (n + 1) after
+      by [] x e are (inl many) = absurd (omega (arith, few, many))
+      by [] x e are (inr ends) = absurd (end_no_item items format x ends timestamp next.item after next.is (sym e ∙ next.spelled))
+      by (s ∷ ss) x e are many =
+          let behind = flat_map (λ (item : List ℕ). item) ss in
+          let same = same_item items format timestamp are.0.0 next.item s after (behind ++ x) next.is are.0.1 (sym next.spelled ∙ e ∙ append_assoc s behind x) in
+          record {
+            row = ss;
+            after = x;
+            spelled = same.1;
+            are = are.1;
+            some = omega arith;
+            many = as_many (n + length (s ∷ ss)) ((n + 1) + length ss) x (omega arith) many;
+          }
 
--- a record that stands out has no record after it that it may precede
-above : (format : Format) (low : ℕ) (r : Logged) (after : List ℕ) → StandsOut (limits_of format) low r after → Stops (limits_of format) r.timestamp after
-above format low r after out s more is le e =
-    let same = same_next format s out.next more out.more is out.follows.lawful (sym e ∙ out.follows.spelled) in
-    omega (arith, le, out.lower, ap (λ (l : Logged). l.timestamp) same.0)
+  pub go_on_unread : (n : ℕ) (bytes : List ℕ) (timestamp : ℕ) (after : List ℕ) → IsNextItem items (limits_of format) bytes timestamp after → GoOnAfter (n + 1) after → GoOnAfter n bytes
+  go_on_unread n bytes timestamp after next h = record {
+    row = next.item ∷ h.row;
+    after = h.after;
+    spelled = next.spelled ∙ ap (λ (x : List ℕ). next.item ++ x) h.spelled ∙ sym (append_assoc next.item (flat_map (λ (item : List ℕ). item) h.row) h.after);
+    are = ((timestamp, next.is), h.are);
+    some = omega arith;
+    many = as_many ((n + 1) + length h.row) (n + length (next.item ∷ h.row)) h.after (omega arith) h.many;
+  }
 
--- records before one more
-pub kept_before : (format : Format) (low : ℕ) (init : List Logged) (z : Logged) (rest : List ℕ) → AreRecords (limits_of format) low (init ++ z ∷ [])
-    → AreKept (limits_of format) low init (spelling z ++ rest)
-kept_before format low [] z rest are = tt
-kept_before format low (r ∷ []) z rest are = (are.0, are.1, (λ out. above format low r (spelling z ++ rest) out z rest are.2.0 are.2.1 refl), tt)
-kept_before format low (r ∷ s ∷ ss) z rest are =
-    let more = flat_map spelling ss ++ (spelling z ++ rest) in (
-      are.0,
-      are.1,
-      (λ out. above format low r (flat_map spelling (s ∷ ss) ++ (spelling z ++ rest)) out s more are.2.0 are.2.1 (append_assoc (spelling s) (flat_map spelling ss) (spelling z ++ rest))),
-      kept_before format r.timestamp (s ∷ ss) z rest are.2,
-    )
+  -- enough were read
+  pub go_on_enough : (n : ℕ) (bytes : List ℕ) → 0 < enough → enough ≤ n → GoOnAfter n bytes
+  go_on_enough n bytes least many = record {
+    row = [];
+    after = bytes;
+    spelled = refl;
+    are = tt;
+    some = omega (arith, least, many);
+    many = inl (omega (arith, many));
+  }
 
--- and with it
-pub kept_with : (format : Format) (low : ℕ) (init : List Logged) (z : Logged) (rest : List ℕ) → AreRecords (limits_of format) low (init ++ z ∷ [])
-    → (StandsOut (limits_of format) (latest low init) z rest → ⊥) → AreKept (limits_of format) low (init ++ z ∷ []) rest
-kept_with format low [] z rest are fits = (are.0, are.1, fits, tt)
-kept_with format low (r ∷ []) z rest are fits =
-    (are.0, are.1, (λ out. above format low r (flat_map spelling (z ∷ []) ++ rest) out z rest are.2.0 are.2.1 (append_assoc (spelling z) [] rest)), kept_with format r.timestamp [] z rest are.2 fits)
-kept_with format low (r ∷ s ∷ ss) z rest are fits =
-    let more = flat_map spelling (ss ++ z ∷ []) ++ rest in (
-      are.0,
-      are.1,
-      (λ out. above format low r (flat_map spelling (s ∷ (ss ++ z ∷ [])) ++ rest) out s more are.2.0 are.2.1 (append_assoc (spelling s) (flat_map spelling (ss ++ z ∷ [])) rest)),
-      kept_with format r.timestamp (s ∷ ss) z rest are.2 fits,
-    )
+  -- the bytes end, after some items
+  pub go_on_ends : (n : ℕ) (bytes : List ℕ) → IsEnd items (limits_of format) bytes → 0 < n → GoOnAfter n bytes
+  go_on_ends n bytes ends some = record {
+    row = [];
+    after = bytes;
+    spelled = refl;
+    are = tt;
+    some = omega (arith, some);
+    many = inr ends;
+  }
 
--- what is kept are records
-pub kept_lawful : (limits : Limits) (low : ℕ) (rs : List Logged) (rest : List ℕ) → AreKept limits low rs rest → AreRecords limits low rs
-kept_lawful limits low [] rest are = tt
-kept_lawful limits low (r ∷ rs) rest are = (are.0, are.1, kept_lawful limits r.timestamp rs rest are.3)
+  -- at the end there were some
+  pub go_on_ended : (n : ℕ) (bytes : List ℕ) → IsEnd items (limits_of format) bytes → GoOnAfter n bytes → 0 < n
+  go_on_ended n bytes ends h = by h.row h.spelled h.are h.some
+    where
+      by : (row : List (List ℕ)) → bytes ≡ flat_map (λ (item : List ℕ). item) row ++ h.after → AllByRecursion (IsSomeItem items (limits_of format)) row → 0 < n + length row → 0 < n
+      by [] e are some = omega (arith, some)
+      by (s ∷ ss) e are some =
+          let behind = flat_map (λ (item : List ℕ). item) ss in
+          absurd (end_no_item items format bytes ends are.0.0 s (behind ++ h.after) are.0.1 (e ∙ append_assoc s behind h.after))
 
--- the last of some records, if there is one, and the numbers of those before it
-pub record Before (low : ℕ) (records : List Logged) (front : Front) : Type 0 where
-  pub init : List Logged
-  pub last : Logged
-  pub joins : records ≡ init ++ last ∷ []
-  pub numbers : HasNumbers low init front
+  -- after a fault they do not go on, unless there were enough
+  pub go_on_fault : (n : ℕ) (bytes : List ℕ) → IsFault items (limits_of format) bytes → n < enough → GoOnAfter n bytes → ⊥
+  go_on_fault n bytes fault few h = by h.row h.after h.spelled h.are h.many
+    where
+      by : (row : List (List ℕ)) (x : List ℕ) → bytes ≡ flat_map (λ (item : List ℕ). item) row ++ x → AllByRecursion (IsSomeItem items (limits_of format)) row → AreMany (n + length row) x → ⊥
+      by [] x e are (inl many) = omega (arith, few, many)
+      by [] x e are (inr ends) = fault.no_end (subst (IsEnd items (limits_of format)) (sym e) ends)
+      by (s ∷ ss) x e are many =
+          let behind = flat_map (λ (item : List ℕ). item) ss in
+          fault.no_item are.0.0 s (behind ++ x) are.0.1 (e ∙ append_assoc s behind x)
 
-abbrev pub IsBefore : ℕ → List Logged → Front → Type 0
-IsBefore low records front = ((records ≡ []) × (front.latest ≡ low)) ⊎ Before low records front
+  -- nor where no item is
+  not_on : (bytes : List ℕ) → HasNoItem items (limits_of format) bytes → GoOn items (limits_of format) enough bytes → ⊥
+  not_on bytes none h = by h.row h.spelled h.are h.some
+    where
+      by : (row : List (List ℕ)) → bytes ≡ flat_map (λ (item : List ℕ). item) row ++ h.after → AllByRecursion (IsSomeItem items (limits_of format)) row → 0 < length row → ⊥
+      by [] e are some = omega (arith, some)
+      by (s ∷ ss) e are some =
+          let behind = flat_map (λ (item : List ℕ). item) ss in
+          none are.0.0 s (behind ++ h.after) are.0.1 (e ∙ append_assoc s behind h.after)
 
--- all are kept, if the last does not stand out
-pub all_kept : (format : Format) (low : ℕ) (bytes rest : List ℕ) (records : List Logged) (all but_last : Front) → bytes ≡ flat_map spelling records ++ rest → AreRecords (limits_of format) low records
-    → HasNumbers low records all → IsBefore low records but_last → Stops (limits_of format) (latest low records) rest → Stops (limits_of format) but_last.latest rest
-    → IsFront (limits_of format) low bytes all
-all_kept format low bytes rest records all but_last e are numbers before stops none_behind =
-    let limits = limits_of format in
+-- ---- the first item
+
+-- the first place at which items go on, or the end
+abbrev pub IsPlace : Items → Format → List ℕ → ℕ → Type 0
+IsPlace items format bytes place = (drop place bytes ≡ []) ⊎ GoOn items (limits_of format) (enough_after place) (drop place bytes)
+
+pub first_found : (items : Items) (format : Format) (bytes rest after last : List ℕ) (place : ℕ) (found : Found) → place ≤ length bytes → StartsNowhere items (limits_of format) bytes place → IsPlace items format bytes place
+    → IsNextItem items (limits_of format) rest found.timestamp after → rest ≡ drop place bytes → found.skipped.now ≡ take place bytes → found.bytes.now ≡ take (length rest - length after) rest
+    → last ≡ drop (length rest - length after) rest → IsFirst items (limits_of format) bytes found last
+first_found items format bytes rest after last place found within nowhere starts next rest_is skipped_is bytes_is last_is =
+    let long : length found.skipped.now ≡ place = ap length skipped_is ∙ length-take-le place bytes within in
+    let size : length rest - length after ≡ length next.item = omega (arith, ap length next.spelled, length-append next.item after) in
+    let is : found.bytes.now ≡ next.item = bytes_is ∙ (λ i. take (size i) (next.spelled i)) ∙ take-append_seam next.item after in
+    let behind : last ≡ after = last_is ∙ (λ i. drop (size i) (next.spelled i)) ∙ drop-append_seam next.item after in
+    let joins : rest ≡ found.bytes.now ++ last = next.spelled ∙ λ i. sym is i ++ sym behind i in
     record {
-      records = records;
-      rest = rest;
-      spelled = e;
-      are_kept = elim before as (λ _. AreKept limits low records rest) [
-        | inl none ↦ subst (λ (rs : List Logged). AreKept limits low rs rest) (sym none.0) tt
-        | inr b ↦
-            let none = subst (λ (n : ℕ). Stops limits n rest) b.numbers.last none_behind in
-            let kept = kept_with format low b.init b.last rest (subst (AreRecords limits low) b.joins are) (λ out. none out.next out.more out.follows.lawful out.follows.rises out.follows.spelled) in
-            subst (λ (rs : List Logged). AreKept limits low rs rest) (sym b.joins) kept
+      is = subst (IsItem items (limits_of format) found.timestamp) (sym is) next.is;
+      spelled = sym (take-append-drop place bytes) ∙ (λ i. sym skipped_is i ++ sym rest_is i) ∙ ap (λ (x : List ℕ). found.skipped.now ++ x) joins;
+      nowhere = subst (StartsNowhere items (limits_of format) bytes) (sym long) nowhere;
+      starts = elim starts as (λ _. GoOn items (limits_of format) (enough_after (length found.skipped.now)) (found.bytes.now ++ last)) [
+        | inl none ↦ absurd (omega (arith, item_some items format found.timestamp next.item next.is, ap length next.spelled, length-append next.item after, ap length rest_is, ap length none))
+        | inr goes ↦ subst (λ (p : ℕ × List ℕ). GoOn items (limits_of format) (enough_after p.0) p.1) (λ i. (sym long i, (sym rest_is ∙ joins) i)) goes
       ];
-      all = λ r after next. absurd (stops r after next.lawful next.rises next.spelled);
-      numbers = numbers;
     }
 
--- all but the last, if it stands out
-pub but_last_kept : (format : Format) (low : ℕ) (bytes rest : List ℕ) (records : List Logged) (but_last : Front) (next : Logged) (more : List ℕ) → bytes ≡ flat_map spelling records ++ rest
-    → AreRecords (limits_of format) low records → IsBefore low records but_last → Stops (limits_of format) (latest low records) rest → IsNext (limits_of format) but_last.latest rest next more
-    → IsFront (limits_of format) low bytes but_last
-but_last_kept format low bytes rest records but_last next more e are (inl none) stops is =
-    let at : but_last.latest ≡ latest low records = none.1 ∙ ap (latest low) (sym none.0) in
-    absurd (stops next more is.lawful (omega (arith, is.rises, at)) is.spelled)
-but_last_kept format low bytes rest records but_last next more e are (inr b) stops is =
-    let limits = limits_of format in
-    let init = b.init in
-    let z = b.last in
-    let lawful = subst (AreRecords limits low) b.joins are in
-    let own = last_lawful limits low init z lawful in
-    let at : latest low records ≡ z.timestamp = ap (latest low) b.joins ∙ latest_push low init z in
-    let lower : next.timestamp < z.timestamp = elim (cases_lt next.timestamp z.timestamp) as (λ _. next.timestamp < z.timestamp) [
-      | inl lt ↦ lt
-      | inr le ↦ absurd (stops next more is.lawful (omega (arith, le, at)) is.spelled)
-    ] in
-    let out : StandsOut limits (latest low init) z rest = record { next = next; more = more; follows = subst (λ (n : ℕ). IsNext limits n rest next more) b.numbers.last is; lower = lower } in
-    record {
-      records = init;
-      rest = spelling z ++ rest;
-      spelled = e ∙ ap (λ (rs : List Logged). flat_map spelling rs ++ rest) b.joins ∙ ap (λ (x : List ℕ). x ++ rest) (sym (flat_map_more spelling [] init z)) ∙ append_assoc (flat_map spelling init) (spelling z) rest;
-      are_kept = kept_before format low init z rest lawful;
-      all = λ r after found.
-          let same = same_next format r z after rest found.lawful own.0 (sym found.spelled) in
-          subst (λ (p : Logged × List ℕ). StandsOut limits (latest low init) p.0 p.1) (λ i. (sym same.0 i, sym same.1 i)) out;
-      numbers = b.numbers;
-    }
-  where
-    last_lawful : (limits : Limits) (low : ℕ) (init : List Logged) (z : Logged) → AreRecords limits low (init ++ z ∷ []) → IsLawful limits z × (latest low init ≤ z.timestamp)
-    last_lawful limits low [] z are = (are.0, are.1)
-    last_lawful limits low (r ∷ rs) z are = last_lawful limits r.timestamp rs z are.2
+pub none_found : (items : Items) (format : Format) (bytes rest : List ℕ) (place : ℕ) → place ≤ length bytes → StartsNowhere items (limits_of format) bytes place → IsPlace items format bytes place
+    → HasNoItem items (limits_of format) rest → rest ≡ drop place bytes → StartsNowhere items (limits_of format) bytes (length bytes)
+none_found items format bytes rest place within nowhere starts none rest_is =
+    elim starts as (λ _. StartsNowhere items (limits_of format) bytes (length bytes)) [
+      | inl ends ↦ subst (StartsNowhere items (limits_of format) bytes) (omega (arith, within, ap length ends, length-drop place bytes)) nowhere
+      | inr goes ↦ absurd (not_on items format (enough_after place) rest none (subst (GoOn items (limits_of format) (enough_after place)) (sym rest_is) goes))
+    ]
 
--- one more record below a timestamp
+pub end_found : (items : Items) (format : Format) (bytes rest : List ℕ) (place : ℕ) → place ≤ length bytes → StartsNowhere items (limits_of format) bytes place → IsPlace items format bytes place
+    → IsEnd items (limits_of format) rest → rest ≡ drop place bytes → StartsNowhere items (limits_of format) bytes (length bytes)
+end_found items format bytes rest place within nowhere starts ends rest_is = none_found items format bytes rest place within nowhere starts (end_no_item items format rest ends) rest_is
+
+-- what follows an item is shorter
+pub fewer_left : (items : Items) (format : Format) (bytes : List ℕ) (found : Found) (after : List ℕ) → IsFirst items (limits_of format) bytes found after → length after < length bytes
+fewer_left items format bytes found after is = omega (
+  arith,
+  item_some items format found.timestamp found.bytes.now is.is,
+  ap length is.spelled,
+  length-append found.skipped.now (found.bytes.now ++ after),
+  length-append found.bytes.now after,
+)
+
+-- one item more
+pub found_on : (items : Items) (limits : Limits) (all bytes after : List ℕ) (before : List Found) (found : Found) → IsFirst items limits bytes found after
+    → ((others : List Found) → AreFound items limits bytes others → AreFound items limits all (before ++ others))
+    → (others : List Found) → AreFound items limits after others → AreFound items limits all ((before ++ found ∷ []) ++ others)
+found_on items limits all bytes after before found is so_far others are =
+    subst (AreFound items limits all) (sym (append_assoc before (found ∷ []) others)) (so_far (found ∷ others) (after, is, are))
+
+-- ---- records below a timestamp
+
 pub below_push : (timestamp : ℕ) (rs : List Logged) (r : Logged) → AllByRecursion (λ (r : Logged). r.timestamp < timestamp) rs → r.timestamp < timestamp
     → AllByRecursion (λ (r : Logged). r.timestamp < timestamp) (rs ++ r ∷ [])
 below_push timestamp [] r these this = (this, tt)
 below_push timestamp (s ∷ rs) r these this = (these.0, below_push timestamp rs r these.1 this)
-
--- ---- stretches
-
--- what follows the records that are kept
-pub rest_of : (limits : Limits) (low : ℕ) (bytes : List ℕ) (front : Front) → (is : IsFront limits low bytes front) → drop front.bytes bytes ≡ is.rest
-rest_of limits low bytes front is = (λ i. drop (is.numbers.size i) (is.spelled i)) ∙ drop-append_seam (flat_map spelling is.records) is.rest
-
--- their bytes
-pub kept_of : (limits : Limits) (low : ℕ) (bytes : List ℕ) (front : Front) → (is : IsFront limits low bytes front) → take front.bytes bytes ≡ flat_map spelling is.records
-kept_of limits low bytes front is = (λ i. take (is.numbers.size i) (is.spelled i)) ∙ take-append_seam (flat_map spelling is.records) is.rest
-
--- there are as many bytes
-pub front_within : (limits : Limits) (low : ℕ) (bytes : List ℕ) (front : Front) → IsFront limits low bytes front → front.bytes ≤ length bytes
-front_within limits low bytes front is = omega (arith, is.numbers.size, ap length is.spelled, length-append (flat_map spelling is.records) is.rest)
-
--- these records, and what is skipped after them, are a stretch
-abbrev pub one_stretch : (limits : Limits) (low : ℕ) (bytes more : List ℕ) (front : Front) (stretch : Stretch) → IsFront limits low bytes front
-    → drop front.bytes bytes ≡ stretch.skipped.now ++ more → GoOnNowhere limits front.latest (drop front.bytes bytes) (length stretch.skipped.now)
-    → (more ≡ []) ⊎ GoOn limits front.latest more → stretch.kept.now ≡ take front.bytes bytes → stretch.count ≡ front.count → IsStretch limits low bytes stretch
-one_stretch limits low bytes more front stretch is joins first ends kept count =
-    let behind : is.rest ≡ stretch.skipped.now ++ more = sym (rest_of limits low bytes front is) ∙ joins in
-    record {
-      records = is.records;
-      more = more;
-      spelled = is.spelled ∙ ap (λ (x : List ℕ). flat_map spelling is.records ++ x) behind;
-      are_kept = subst (AreKept limits low is.records) behind is.are_kept;
-      all = subst (EndsKept limits (latest low is.records)) behind is.all;
-      first = subst (λ (p : ℕ × List ℕ). GoOnNowhere limits p.0 p.1 (length stretch.skipped.now)) (λ i. (is.numbers.last i, joins i)) first;
-      ends = subst (λ (n : ℕ). (more ≡ []) ⊎ GoOn limits n more) is.numbers.last ends;
-      kept = kept ∙ kept_of limits low bytes front is;
-      count = count ∙ is.numbers.count;
-    }
-
--- the same, from what the search found
-abbrev pub stretch_from : (limits : Limits) (low : ℕ) (bytes after more : List ℕ) (front : Front) (place : ℕ) (stretch : Stretch) → IsFront limits low bytes front
-    → after ≡ drop front.bytes bytes → stretch.kept.now ≡ take front.bytes bytes → stretch.count ≡ front.count → place ≤ length after → GoOnNowhere limits front.latest after place
-    → (drop place after ≡ []) ⊎ GoOn limits front.latest (drop place after) → stretch.skipped.now ≡ take place after → more ≡ drop place after → IsStretch limits low bytes stretch
-stretch_from limits low bytes after more front place stretch is behind kept count within first found skipped_is more_is =
-    let long : length stretch.skipped.now ≡ place = ap length skipped_is ∙ length-take-le place after within in
-    one_stretch limits low bytes more front stretch is (sym behind ∙ sym (take-append-drop place after) ∙ λ i. sym skipped_is i ++ sym more_is i)
-    (subst (λ (p : List ℕ × ℕ). GoOnNowhere limits front.latest p.0 p.1) (λ i. (behind i, sym long i)) first)
-    (subst (λ (x : List ℕ). (x ≡ []) ⊎ GoOn limits front.latest x) (sym more_is) found) kept count
-
--- records do not go on with a record that stands out
-not_kept : (format : Format) (low : ℕ) (bytes : List ℕ) → EndsKept (limits_of format) low bytes → GoOn (limits_of format) low bytes → ⊥
-not_kept format low bytes ends h = by h.records h.spelled h.lawful h.some h.enough
-  where
-    limits : Limits
-    limits = limits_of format
-
-    by : (ss : List Logged) → bytes ≡ flat_map spelling ss ++ h.after → AreRecords limits low ss → 0 < length ss → IsEnough limits (length ss) h.after → ⊥
-    by [] e are some enough = omega (arith, some)
-    by (s ∷ []) e are some (inl many) = omega (arith, many)
-    by (s ∷ []) e are some (inr last) =
-        let out = ends s h.after (record { lawful = are.0; rises = are.1; spelled = e ∙ append_assoc (spelling s) [] h.after }) in
-        end_stops format low h.after last out.next out.more out.follows.lawful out.follows.rises out.follows.spelled
-    by (s ∷ t ∷ ts) e are some enough =
-        let out = ends s (flat_map spelling (t ∷ ts) ++ h.after) (record { lawful = are.0; rises = are.1; spelled = e ∙ append_assoc (spelling s) (flat_map spelling (t ∷ ts)) h.after }) in
-        above format low s (flat_map spelling (t ∷ ts) ++ h.after) out t (flat_map spelling ts ++ h.after) are.2.0 are.2.1 (append_assoc (spelling t) (flat_map spelling ts) h.after)
-
--- what follows a stretch is shorter
-pub fewer_left : (format : Format) (low : ℕ) (bytes : List ℕ) (stretch : Stretch) → 0 < length bytes → (is : IsStretch (limits_of format) low bytes stretch) → length is.more < length bytes
-fewer_left format low bytes stretch some is =
-    let limits = limits_of format in
-    elim is.ends as (λ _. length is.more < length bytes) [
-      | inl none ↦ omega (arith, some, ap length none)
-      | inr goes ↦ elim (cases_lt 0 (length stretch.skipped.now)) as (λ _. length is.more < length bytes) [
-        | inl lt ↦ omega (arith, lt, ap length is.spelled, length-append (flat_map spelling is.records) (stretch.skipped.now ++ is.more), length-append stretch.skipped.now is.more)
-        | inr none ↦
-            let empty : stretch.skipped.now ≡ [] = nil_from_length stretch.skipped.now (omega (arith, none)) in
-            absurd (not_kept format (latest low is.records) is.more (subst (λ (x : List ℕ). EndsKept limits (latest low is.records) (x ++ is.more)) empty is.all) goes)
-      ]
-    ]
-
--- one stretch more
-pub stretches_on : (limits : Limits) (least low last : ℕ) (all bytes more : List ℕ) (before : List Stretch) (stretch : Stretch) → 0 < length bytes → (is : IsStretch limits low bytes stretch)
-    → is.more ≡ more → latest low is.records ≡ last → ((others : List Stretch) → AreStretches limits low bytes others → AreStretches limits least all (before ++ others))
-    → (others : List Stretch) → AreStretches limits last more others → AreStretches limits least all ((before ++ stretch ∷ []) ++ others)
-stretches_on limits least low last all bytes more before stretch some is left time so_far others are =
-    let here : AreStretches limits low bytes (stretch ∷ others) = (some, (is, subst (λ (p : ℕ × List ℕ). AreStretches limits p.0 p.1 others) (λ i. (sym time i, sym left i)) are)) in
-    subst (AreStretches limits least all) (sym (append_assoc before (stretch ∷ []) others)) (so_far (stretch ∷ others) here)

@@ -1,5 +1,5 @@
 //! Laws that hold for all bytes.
-ghost use Rattle.std.specs.Prelude.{◌≡◌, ◌<◌, ◌^◌, ◌++◌, ℕ, List, [], length};
+ghost use Rattle.std.specs.Prelude.{◌≡◌, ◌<◌, ◌^◌, ◌++◌, ℕ, Bool, List, [], length, map};
 ghost use Rattle.std.specs.List.{flat_map};
 ghost use Rattle.mt_words.specs.declared.limits.Format.{Format};
 ghost use Rattle.mt_words.specs.Limits.{limits_of};
@@ -9,9 +9,10 @@ ghost use Rattle.mt_record.specs.declared.read.FeedFault.{FeedFault};
 ghost use Rattle.mt_record.specs.Spelling.{spelling};
 ghost use Rattle.mt_record.specs.declared.feed.head.Head.{Head};
 ghost use Rattle.mt_record.specs.Heads.{IsHead, head_bytes};
-ghost use Rattle.mt_record.specs.declared.salvage.Stretch.{Stretch};
-ghost use Rattle.mt_record.specs.Salvage.{AreStretches, kept_bytes, spans, records_in};
-ghost use Rattle.mt_record.specs.PartSalvage.{AreEntryStretches, AreStretchesIn, salvaged_part};
+ghost use Rattle.mt_record.specs.declared.salvage.Items.{Items};
+ghost use Rattle.mt_record.specs.declared.salvage.Items.TheVariants.{Records, Entries};
+ghost use Rattle.mt_record.specs.declared.salvage.Found.{Found};
+ghost use Rattle.mt_record.specs.Salvage.{AreFound, AreFoundIn, bytes_of, spans, marked, KeepMost, salvaged_part};
 ghost use Rattle.mt_record.specs.Logs.{IsLog, LogReading, IsReading};
 ghost use Rattle.mt_record.specs.LogFaults.{IsLogFault};
 ghost use Rattle.mt_record.specs.declared.part_text.PartHead.{PartHead};
@@ -51,35 +52,25 @@ pub fn one_part()
         entry_spelling other ≡ entry_spelling entry ++ more → (entry ≡ other) × (more ≡ []) }
 {}
 
-/// Bytes have one list of stretches: the bytes that are kept and those that are skipped, in order, each once. What is
-/// kept is, after a header of the same format, a log of exactly the records that were counted. This is a law: it has
-/// nothing to run.
+/// The bytes of a damaged log or of a broken part have one list of records or entries: those and the bytes that are skipped,
+/// in order, each once. What is kept of the records of the pieces of a log is, after a header of the same format, a log of
+/// exactly these; the entries of the pieces of a part are, between its header and a footer, a part of exactly these. This is a
+/// law: it has nothing to run.
 pub fn one_salvage()
-    ensures one_list { (format : Format) (low : ℕ) (bytes : List ℕ) (stretches others : List Stretch) →
-        AreStretches (limits_of format) low bytes stretches → AreStretches (limits_of format) low bytes others →
-        spans stretches ≡ spans others }
-    ensures in_order { (format : Format) (low : ℕ) (bytes : List ℕ) (stretches : List Stretch) →
-        AreStretches (limits_of format) low bytes stretches →
-        bytes ≡ flat_map (λ stretch. stretch.kept.now ++ stretch.skipped.now) stretches }
-    ensures log { (head : Head) (bytes : List ℕ) (stretches : List Stretch) → IsHead head →
-        AreStretches (limits_of head.format) 0 bytes stretches →
-        (records : List Logged) × IsLog (head_bytes head ++ kept_bytes stretches) head records [] ×
-        (records_in stretches ≡ length records) }
-{}
-
-/// Bytes have one list of stretches of entries: the bytes that are kept and those that are skipped, in order, each once.
-/// What is kept of the pieces of a part is, between its header and a footer, a part of exactly the entries that were
-/// counted. This is a law: it has nothing to run.
-pub fn one_part_salvage()
-    ensures one_list { (format : Format) (bytes : List ℕ) (stretches others : List Stretch) →
-        AreEntryStretches (limits_of format) bytes stretches → AreEntryStretches (limits_of format) bytes others →
-        spans stretches ≡ spans others }
-    ensures in_order { (format : Format) (bytes : List ℕ) (stretches : List Stretch) →
-        AreEntryStretches (limits_of format) bytes stretches →
-        bytes ≡ flat_map (λ stretch. stretch.kept.now ++ stretch.skipped.now) stretches }
-    ensures part { (head : PartHead) (pieces : List (List ℕ)) (stretches : List Stretch) (end : ℕ) →
-        IsPartHead head → end < 2 ^ 64 → AreStretchesIn (limits_of head.format) pieces stretches →
-        records_in stretches < 2 ^ 32 →
-        (entries : List Change) × IsPart (salvaged_part head stretches end) head entries end ×
-        (records_in stretches ≡ length entries) }
+    ensures one_list { (items : Items) (format : Format) (bytes : List ℕ) (found others : List Found) →
+        AreFound items (limits_of format) bytes found → AreFound items (limits_of format) bytes others →
+        spans found ≡ spans others }
+    ensures in_order { (items : Items) (format : Format) (bytes : List ℕ) (found : List Found) →
+        AreFound items (limits_of format) bytes found →
+        (rest : List ℕ) × (bytes ≡ flat_map (λ item. item.skipped.now ++ item.bytes.now) found ++ rest) }
+    ensures log { (head : Head) (pieces : List (List ℕ)) (found : List Found) (marks : List Bool) → IsHead head →
+        AreFoundIn Records (limits_of head.format) pieces found →
+        KeepMost (map (λ item. item.timestamp) found) marks →
+        (records : List Logged) × IsLog (head_bytes head ++ bytes_of (marked marks found)) head records [] ×
+        (length records ≡ length (marked marks found)) }
+    ensures part { (head : PartHead) (pieces : List (List ℕ)) (entries : List Found) (end : ℕ) →
+        IsPartHead head → end < 2 ^ 64 → AreFoundIn Entries (limits_of head.format) pieces entries →
+        length entries < 2 ^ 32 →
+        (changes : List Change) × IsPart (salvaged_part head entries end) head changes end ×
+        (length changes ≡ length entries) }
 {}
