@@ -1,9 +1,9 @@
 -- Texts in blocks.
-use Rattle.std.proofs.Common.{◌≡◌, ◌∙◌, ℕ, zero, suc, ◌+◌, ◌*◌, ◌/◌, ◌%◌, ◌<◌, ◌≤◌, List, [], ◌∷◌, ◌++◌, length, take, get_or, All, refl, sym, ap, arith}
+use Rattle.std.proofs.Common.{◌≡◌, ◌∙◌, ℕ, zero, suc, ◌+◌, ◌*◌, ◌^◌, ◌/◌, ◌%◌, ◌<◌, ◌≤◌, List, [], ◌∷◌, ◌++◌, length, take, get_or, All, refl, sym, ap, subst, arith}
 use Rattle.std.proofs.lemmas.Nat.{div-add-mod', mod_below}
 use Rattle.std.proofs.lemmas.List.{length-append, append-nil, get_or_append_left, get_or-append-add}
 use Rattle.std.proofs.lemmas.List.Concat.{get_or-flat_map}
-use Rattle.std.proofs.lemmas.List.Elements.{All-head, All-tail}
+use Rattle.std.proofs.lemmas.List.Elements.{All-append, All-head, All-push, All-tail}
 use Rattle.std.proofs.lemmas.Grind.{flat_map-append}
 use Rattle.mt_words.specs.Walks.{joined}
 use Rattle.mt_record.specs.Steps.Blocks.{IsFull, AreBlocks}
@@ -60,3 +60,12 @@ past_full full last now at view are below past =
 pub all_blocks : (full all : List (List (List ℕ))) (last : List (List ℕ)) → all ≡ full ++ last ∷ [] → joined all ≡ joined full ++ last
 all_blocks full all last is =
     ap joined is ∙ flat_map-append (λ (list : List (List ℕ)). list) full (last ∷ []) ∙ ap (λ (texts : List (List ℕ)). joined full ++ texts) (append-nil last)
+
+-- the last block as one of the others, and then further blocks
+pub blocks_append : (full more new : List (List (List ℕ))) (last end dest : List (List ℕ)) → AreBlocks full last → AreBlocks more end → length last ≡ 512 → length full + length more < 2 ^ 54
+    → new ≡ (full ++ last ∷ []) ++ more → dest ≡ end → AreBlocks new dest
+blocks_append full more new last end dest are others whole small is same = record {
+  filled = subst (All IsFull) (sym is) (All-append IsFull (full ++ last ∷ []) more (All-push IsFull full last are.filled whole) others.filled);
+  few = omega (arith, ap length is, length-append (full ++ last ∷ []) more, length-append full (last ∷ []), small);
+  within = omega (arith, ap length same, others.within);
+}

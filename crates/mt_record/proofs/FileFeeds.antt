@@ -85,16 +85,16 @@ untold_not_plain bytes (inr (sealed, few)) plain = plain_now bytes plain sealed
 -- ---- what was read of the text
 
 -- with a fault or without, a feed has read a front of its text
-text_front_read : (taken : List Logged) (s : LogSoFar) (held : List ℕ) (fault : Option FeedFault) (text : List ℕ) → IsTextFed taken s held fault text → (front rest : List ℕ) × (text ≡ front ++ rest) × HoldsLog taken s front
+pub text_front_read : (taken : List Logged) (s : LogSoFar) (held : List ℕ) (fault : Option FeedFault) (text : List ℕ) → IsTextFed taken s held fault text → (front rest : List ℕ) × (text ≡ front ++ rest) × HoldsLog taken s front
 text_front_read taken s held None text fed = let all = fed.0 refl in (all.0.front, held, all.0.joins, all.0.read)
 text_front_read taken s held (Some fault) text fed = let shown = fed.1 fault refl in (shown.read.front, shown.shown ++ shown.more, shown.read.joins, shown.read.read)
 
 -- with a fault or without, the bytes behind a header are blocks, and then others
-record HasBlocks (is_fed : List ℕ → Type 0) (header : Header) (bytes : List ℕ) : Type 0 where
-  bodies : List (List ℕ)
-  rest : List ℕ
-  begins : Begins bytes header bodies rest
-  fed : is_fed (text_of header bodies)
+pub record HasBlocks (is_fed : List ℕ → Type 0) (header : Header) (bytes : List ℕ) : Type 0 where
+  pub bodies : List (List ℕ)
+  pub rest : List ℕ
+  pub begins : Begins bytes header bodies rest
+  pub fed : is_fed (text_of header bodies)
 
 blocks_begin : (is_fed : List ℕ → Type 0) (place : Place) (header : Header) (bytes behind front rest : List ℕ) → IsHeader header → bytes ≡ header_bytes header ++ behind → behind ≡ front ++ rest
     → (h : HoldsBlocks is_fed place (head_bytes (text_head header)) (mark_of header) front) → Begins bytes header h.bodies (h.skipped ++ rest)
@@ -105,7 +105,7 @@ blocks_begin is_fed place header bytes behind front rest is spelled joins h = re
   are_bodies = h.are_bodies;
 }
 
-has_blocks : (is_fed : List ℕ → Type 0) (damage : FeedFault) (file : FileSoFar FeedFault) (fault : Option FeedFault) (bytes : List ℕ) → (fed : IsFedBlocks is_fed damage IsMemory file fault bytes) → HasBlocks is_fed fed.header bytes
+pub has_blocks : (is_fed : List ℕ → Type 0) (damage : FeedFault) (file : FileSoFar FeedFault) (fault : Option FeedFault) (bytes : List ℕ) → (fed : IsFedBlocks is_fed damage IsMemory file fault bytes) → HasBlocks is_fed fed.header bytes
 has_blocks is_fed damage file None bytes fed =
     let all = fed.fed.0 refl in
     record {

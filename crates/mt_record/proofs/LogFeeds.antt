@@ -28,6 +28,7 @@ use Rattle.mt_record.specs.declared.front.Rest.TheVariants.{Nothing, Torn, Fault
 use Rattle.mt_record.specs.LogFronts.{IsTextRest, IsTextFrontOf, IsFrontOf}
 use Rattle.mt_record.specs.Steps.Bodies.{IsNextBody, IsBodyOf}
 use Rattle.mt_record.specs.Feeding.{HasRead, Reads, HoldsAll, HasShown}
+pub use Rattle.mt_record.specs.Steps.Joining.{begins_at}
 use Rattle.mt_record.specs.LogFeeding.{LogSoFar, log_so_far, IsReadTo, HoldsLog, IsLogLeft, IsLogFaulty}
 use Rattle.mt_record.proofs.Records.{records_push, latest_push, greatest_push, last_is}
 use Rattle.mt_record.specs.Decoding.{decode}
@@ -53,10 +54,6 @@ begun taken s front text rest some reads =
     (reads.joins ∙ behind_on (head_bytes front.head) reads.front (flat_map spelling (taken ++ s.ready)) rest read.spelled, read)
 
 -- ---- items
-
--- the front of a header without records, at the end of its bytes
-abbrev pub begins_at : Head → ℕ → LogFront
-begins_at head size = record { head = head; count = 0; latest = 0; version = 0; bytes = size; rest = Nothing }
 
 -- the header is read if nothing was read before
 pub header_read : {R : Type 0} (listed : R → List Logged) (old : LogItems R) (head : Head) (bytes after : List ℕ) → old.front ≡ None → IsHead head → bytes ≡ head_bytes head ++ after

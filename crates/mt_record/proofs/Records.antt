@@ -33,7 +33,7 @@ abbrev times : List Logged → List ℕ
 times rs = map (λ r. r.timestamp) rs
 
 -- the last timestamp is at least `low`
-latest_least : (limits : Limits) (low : ℕ) (rs : List Logged) → AreRecords limits low rs → low ≤ latest low rs
+pub latest_least : (limits : Limits) (low : ℕ) (rs : List Logged) → AreRecords limits low rs → low ≤ latest low rs
 latest_least limits low [] are = omega arith
 latest_least limits low (r ∷ rs) are = omega (arith, are.1, latest_least limits r.timestamp rs are.2)
 

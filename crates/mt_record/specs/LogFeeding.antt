@@ -12,6 +12,9 @@ use Rattle.mt_record.specs.declared.feed.log_items.LogItems.{LogItems}
 use Rattle.mt_record.specs.declared.front.Rest.TheVariants.{Nothing}
 use Rattle.mt_record.specs.declared.front.LogFront.{LogFront}
 use Rattle.mt_record.specs.Fronts.{ShowsNone, IsUnfinishedFront}
+use Rattle.mt_block.specs.declared.header.Header.{Header}
+use Rattle.mt_block.specs.Blocks.{IsHeader, header_bytes}
+use Rattle.mt_record.specs.declared.feed.head.Head.{Head}
 use Rattle.mt_record.specs.Heads.{IsHead, head_bytes}
 use Rattle.mt_record.specs.Logs.{AreRecords, IsTorn, log_bytes}
 use Rattle.mt_record.specs.LogTexts.{front_of}
@@ -120,6 +123,16 @@ IsTextFed taken so_far held fault text = IsFedBy (HoldsLog taken) IsLogLeft IsLo
 -- the feed was fed these bytes, and these records were taken from it
 abbrev pub IsLogFed : FedLog → List ℕ → List Logged → Type 0
 IsLogFed feed bytes taken = IsFedAs feed.file.kind (IsTextFed taken feed.so_far feed.held) (damage_after feed.so_far) IsHeaderShown IsMemory feed.file feed.fault bytes
+
+-- the bytes are a header, of a log or of a file of format 4, and nothing else
+abbrev pub IsAnyHeader : List ℕ → Type 0
+IsAnyHeader bytes = ((head : Head) × IsHead head × (bytes ≡ head_bytes head)) ⊎ ((header : Header) × IsHeader header × (bytes ≡ header_bytes header))
+
+-- the feed was fed some header, and then these bytes
+pub record IsFedBehind (feed : FedLog) (bytes : List ℕ) : Type 0 where
+  pub header : List ℕ
+  pub is_header : IsAnyHeader header
+  pub fed : IsLogFed feed (header ++ bytes) []
 
 -- the fault that was returned: that of the text in a plain file, and otherwise that of the file
 abbrev pub fault_in : FileKind → Option FeedFault → Option FeedFault → Option FeedFault

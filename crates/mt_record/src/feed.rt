@@ -1,5 +1,6 @@
 //! Reads input that comes in chunks. `LogFeed` and `PartFeed` share this code.
 pub mod blocks;
+pub mod cutter;
 pub mod file_feed;
 pub mod frame;
 pub mod head;

@@ -35,7 +35,7 @@ pub struct Segment {
 }
 
 /// The header of a log.
-#[derive(Clone, Copy, Debug)]
+#[derive(Clone, Copy, Debug, PartialEq, Eq)]
 pub struct Head {
     /// The format of the records.
     pub format: Format,

@@ -1,5 +1,5 @@
 //! Reads a log that comes in chunks.
-ghost use Rattle.std.specs.Prelude.{◌≡◌, ◌≢◌, ◌++◌, [], List, ℕ, Some, None, IsSome, IfOk, IfErr, OnOk};
+ghost use Rattle.std.specs.Prelude.{◌≡◌, ◌≢◌, ◌++◌, [], List, ℕ, Some, None, IsSome, IfSome, IfOk, IfErr, OnOk};
 ghost use Rattle.mt_words.specs.Changes.{Logged};
 ghost use Rattle.mt_record.specs.declared.read.FeedFault.{FeedFault as FaultValue};
 ghost use Rattle.mt_words.specs.declared.fault.What.{What as WhatValue};
@@ -8,7 +8,7 @@ ghost use Rattle.mt_record.specs.Cutting.{IsCountOf, HasCut};
 ghost use Rattle.mt_record.specs.LogTexts.{IsTextIn};
 ghost use Rattle.mt_record.specs.Answered.{IsAnswered};
 ghost use Rattle.mt_record.specs.LogFronts.{IsFrontOf};
-ghost use Rattle.mt_record.specs.LogFeeding.{latest_read, IsLogFed, ShowsNoFault, IsShown};
+ghost use Rattle.mt_record.specs.LogFeeding.{latest_read, IsLogFed, IsFedBehind, ShowsNoFault, IsShown};
 
 use crate::feed::file_feed::FileFeed;
 use crate::front::{LogFront, Rest};
@@ -66,6 +66,34 @@ impl LogFeed<KeptRecords> {
         ensures sound { result.fault ≡ None }
     {
         LogFeed::filling(alloc, KeptRecords::new(alloc))
+    }
+
+    /// Returns a feed that has read the header of this log alone. Returns None if this feed has not read the header.
+    pub fn behind_header(&self, alloc: Global) -> Option<LogFeed<KeptRecords>>
+        ensures { (bytes : List ℕ) (taken : List Logged) → IsLogFed self.now bytes taken →
+            IfSome result (λ begun. IsFedBehind begun []) }
+    {
+        Some(LogFeed {
+            file: self.file.behind_header(alloc)?,
+        })
+    }
+
+    /// Reads the next chunk, as `feed` does. `ahead` was fed the chunk behind a header, perhaps by another thread; what it
+    /// read is not read again if it goes on from here. Err: the same as for `feed`.
+    pub fn feed_ahead(&mut self, ahead: LogFeed<KeptRecords>, piece: &[u8]) -> Result<(), FeedFault>
+        requires { IsFedBehind ahead piece.now }
+        ensures fed { (bytes : List ℕ) (taken : List Logged) → IsLogFed self.old bytes taken →
+            IsLogFed self.new (bytes ++ piece.now) taken }
+        ensures ok { (bytes : List ℕ) (taken : List Logged) → IsLogFed self.old bytes taken →
+            OnOk result (ShowsNoFault (bytes ++ piece.now)) }
+        ensures fault { (bytes : List ℕ) (taken : List Logged) → IsLogFed self.old bytes taken →
+            IfErr result (IsShown (bytes ++ piece.now)) }
+        ensures sound { OnOk result (self.new.fault ≡ None) }
+        ensures kept { IfErr result (λ fault. self.new.fault ≡ Some fault) }
+        ensures again { (fault : FaultValue) → self.old.fault ≡ Some fault → result ≡ Err fault }
+        ensures stays { IsSome self.old.fault → self.new ≡ self.old }
+    {
+        self.file.read_ahead(ahead.file, piece)
     }
 
     /// Returns the timestamp of the last complete record that was read, or 0 before the first.

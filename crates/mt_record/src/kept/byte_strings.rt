@@ -1,5 +1,5 @@
 //! A list of byte strings in blocks.
-ghost use Rattle.std.specs.Prelude.{◌≡◌, ◌<◌, ◌^◌, ◌++◌, [], ◌∷◌, List, ℕ, OnOk, OnErr, IfOk, length, slice_index_or};
+ghost use Rattle.std.specs.Prelude.{◌≡◌, ◌<◌, ◌≤◌, ◌^◌, ◌++◌, [], ◌∷◌, List, ℕ, OnOk, OnErr, IfOk, length, take, slice_index_or};
 ghost use Rattle.mt_words.specs.Walks.{joined};
 ghost use Rattle.mt_record.specs.Steps.Blocks.{AreBlocks};
 ghost use Rattle.mt_record.specs.declared.kept.byte_strings.TheConstants.{TEXTS};
@@ -105,8 +105,8 @@ impl ByteStrings {
     }
 
     /// Appends a text. Err: out of memory; nothing is appended.
-    // Each record of a log passes through here when it is scanned, and through `push_joined` when it is dealt. Without
-    // inlining, the calls alone are a thirtieth of all instructions.
+    // Each record of a log passes through here when it is scanned. Without inlining, the calls alone are a thirtieth of all
+    // instructions.
     #[inline(always)]
     pub fn push(&mut self, text: &[u8]) -> Result<(), Memory>
         ensures ok { OnOk result (self.new ≡ self.old ++ text.now ∷ []) }
@@ -123,6 +123,46 @@ impl ByteStrings {
     {
         make_room(&mut self.full, &mut self.last)?;
         self.last.push_joined(front, rest)
+    }
+
+    /// Appends these texts. They are copied only if the last block is not full. Err: out of memory; nothing is appended.
+    pub(crate) fn append(&mut self, more: ByteStrings) -> Result<(), Memory>
+        ensures ok { OnOk result (self.new ≡ self.old ++ more) }
+        ensures err { OnErr result (self.new ≡ self.old) }
+    {
+        if self.last.len() % TEXTS > 0 {
+            return self.copy(&more);
+        }
+        let ByteStrings { full, last } = more;
+        append_blocks(&mut self.full, &mut self.last, full, last)
+    }
+
+    /// Appends copies of these texts. Err: out of memory; nothing is appended.
+    fn copy(&mut self, more: &ByteStrings) -> Result<(), Memory>
+        ensures ok { OnOk result (self.new ≡ self.old ++ more.now) }
+        ensures err { OnErr result (self.new ≡ self.old) }
+    {
+        let count = self.len();
+        for at in 0..more.len() {
+            match self.push(more.get(at)) {
+                Ok(()) => {}
+                Err(Memory) => {
+                    self.shorten(count);
+                    return Err(Memory);
+                }
+            }
+        }
+        Ok(())
+    }
+
+    /// Removes texts from the end until this many are left.
+    fn shorten(&mut self, count: usize)
+        requires { count ≤ length self.old }
+        ensures { self.new ≡ take count self.old }
+    {
+        'texts: while self.len() > count {
+            self.drop_last();
+        }
     }
 
     /// Returns the blocks. Err: out of memory.
@@ -165,6 +205,34 @@ fn begin_block(full: &mut Vec<Block>, last: &mut Block) -> Result<(), Memory>
     let next = last.next()?;
     full.reserve(1)?;
     full.push_reserved(mem::replace(last, next));
+    Ok(())
+}
+
+/// Appends further blocks. Err: the last block is not full, or out of memory; nothing is appended.
+fn append_blocks(
+    full: &mut Vec<Block>,
+    last: &mut Block,
+    more: Vec<Block>,
+    end: Block,
+) -> Result<(), Memory>
+    requires blocks { AreBlocks full.old.items last.old }
+    requires more { AreBlocks more.items end }
+    ensures ok { OnOk result (joined full.new.items ++ last.new ≡ (joined full.old.items ++ last.old) ++ (joined more.items ++ end)) }
+    ensures err { OnErr result (joined full.new.items ++ last.new ≡ joined full.old.items ++ last.old) }
+    ensures blocks { AreBlocks full.new.items last.new }
+{
+    if full.is_empty() && last.len() == 0 {
+        *full = more;
+        *last = end;
+        return Ok(());
+    }
+    if last.len() < TEXTS || full.len() + more.len() >= MOST_BLOCKS {
+        return Err(Memory);
+    }
+    full.reserve(more.len() + 1)?;
+    full.push_reserved(mem::replace(last, end));
+    let mut more = more;
+    full.append(&mut more)?;
     Ok(())
 }
 

@@ -1,9 +1,9 @@
 //! The records of a log, kept as bodies.
-ghost use Rattle.std.specs.Prelude.{◌≡◌, ◌<◌, ◌++◌, ◌∷◌, [], length, map, filter, All, slice_index_or};
+ghost use Rattle.std.specs.Prelude.{◌≡◌, ◌<◌, ◌++◌, ◌∷◌, [], length, map, filter, All, slice_index_or, OnOk, OnErr};
 ghost use Rattle.mt_words.specs.Changes.{Logged, is_mark};
 ghost use Rattle.mt_record.specs.Steps.Bodies.{IsLawfulBody};
 ghost use Rattle.mt_record.specs.Decoding.{IsBody, decode};
-ghost use Rattle.mt_record.specs.Cutting.{ends_late, HasCut, IsCountOf};
+ghost use Rattle.mt_record.specs.Cutting.{ends_late, first_time, HasCut, IsCountOf};
 ghost use Rattle.mt_record.specs.Logs.{count_of};
 
 use crate::body::spelled;
@@ -63,6 +63,27 @@ impl KeptRecords {
     {
         let KeptRecords { bodies, marks: _ } = self;
         bodies
+    }
+
+    /// Appends these records. Err: out of memory; nothing is appended.
+    pub(crate) fn append(&mut self, more: KeptRecords) -> Result<(), Memory>
+        ensures ok { OnOk result (self.new ≡ self.old ++ more) }
+        ensures err { OnErr result (self.new ≡ self.old) }
+    {
+        let KeptRecords { bodies, marks } = more;
+        self.bodies.append(bodies)?;
+        self.marks = self.marks.saturating_add(marks);
+        Ok(())
+    }
+
+    /// Returns the timestamp of the first record. Returns None if there is no record.
+    pub(crate) fn first(&self) -> Option<u64>
+        ensures { result ≡ first_time self.now }
+    {
+        if self.len() == 0 {
+            return None;
+        }
+        Some(spelled::timestamp(self.body(0)))
     }
 
     /// Drops all records, and keeps the memory of the last block for others. Returns how many updates and marks were
