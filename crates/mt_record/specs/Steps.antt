@@ -4,7 +4,10 @@ pub mod Adding
 pub mod ByteStrings
 pub mod Blocks
 pub mod Kept
+pub mod Texts
+pub mod Streams
 pub mod Splits
 pub mod Salvages
-pub mod PartSalvages
+pub mod Climbs
 pub mod Telling
+pub mod Joining

@@ -1,10 +1,13 @@
 //! The collections into which the records of a log and the entries of a part are read.
 mod block;
+pub mod bodies;
 pub mod byte_strings;
 mod ends;
 pub mod log;
 pub mod part;
 pub mod share;
+pub mod stream;
+pub mod text;
 pub mod updates;
 
 ghost use Rattle.std.specs.Prelude.{◌≡◌, ◌++◌, [], ◌∷◌, List, length, OnOk, OnErr};

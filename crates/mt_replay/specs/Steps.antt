@@ -1,6 +1,5 @@
 -- What private contracts, models of types and proofs say. No public contract names these definitions.
 pub mod Walker
-pub mod Bodies
 pub mod SortedUpdates
 pub mod Numbers
 pub mod Auditor

@@ -7,9 +7,9 @@ ghost use Rattle.mt_replay.specs.Clashes.{Rises, AreClashes};
 ghost use Rattle.mt_replay.specs.Cuts.{InKeyOrder};
 ghost use Rattle.mt_replay.specs.Steps.Auditor.{IsLowerSeen, seen_by, seen_in, clash_at, AddClashes};
 
-use crate::bodies::Text;
 use crate::clash::{Clash, Place};
 use crate::replay::end_of_key;
+use mt_record::Text;
 use mt_words::{Key, Memory, Origin, Stamp};
 use std::alloc::Global;
 

@@ -12,20 +12,19 @@ ghost use Rattle.mt_replay.specs.Steps.Dealing.{extended};
 ghost use Rattle.mt_replay.specs.Survivors.{in_window};
 
 use crate::batch::Batch;
-use crate::bodies::{Bodies, Text};
 use crate::{Cuts, Window};
-use mt_record::{Lent, Share};
+use mt_record::{Lent, Share, Stream, Text};
 use mt_words::{Key, Memory, slice_of};
 use std::alloc::Global;
 use std::marker::Model;
 
-/// The number of bytes for which room is made in a list for each body.
-const BODY: usize = 32;
+/// The number of bytes for which room is made in a list for each update.
+const TEXT: usize = 64;
 
 /// The updates of some records, dealt to the pieces of their keys: a list for each piece.
 #[derive(Drop)]
 pub struct Dealt {
-    lists: Vec<Bodies>,
+    lists: Vec<Stream>,
 }
 
 impl Model for Dealt {
@@ -59,7 +58,7 @@ impl Dealt {
 /// The updates whose keys lie in one piece, in any order.
 #[derive(Drop)]
 pub struct Range {
-    lists: Vec<Bodies>,
+    lists: Vec<Stream>,
     updates: usize,
 }
 
@@ -99,13 +98,13 @@ impl Range {
     {
         let mut texts = Vec::with_capacity(alloc, self.updates)?;
         for list in &self.lists {
-            add_texts(&mut texts, list)?;
+            list.add_to(&mut texts)?;
         }
         Ok(texts)
     }
 
     /// Appends a list of updates. Err: out of memory. No memory has more updates than a `usize` counts.
-    pub(crate) fn push(&mut self, list: Bodies) -> Result<(), Memory>
+    pub(crate) fn push(&mut self, list: Stream) -> Result<(), Memory>
         ensures { OnOk result (self.new ≡ self.old ++ list) }
     {
         let Some(updates) = self.updates.checked_add(list.len()) else {
@@ -115,16 +114,6 @@ impl Range {
         self.updates = updates;
         Ok(())
     }
-}
-
-/// Appends the texts of a list of updates. Err: out of memory.
-pub(crate) fn add_texts<'a>(texts: &mut Vec<Text<'a>>, list: &'a Bodies) -> Result<(), Memory>
-    ensures { OnOk result (texts.new.items ≡ texts.old.items ++ list.now) }
-{
-    for at in 0..list.len() {
-        texts.push(list.text(at))?;
-    }
-    Ok(())
 }
 
 /// Returns the updates of each piece: what all the dealt lists have for it. No body is copied. Err: out of memory.
@@ -159,14 +148,14 @@ fn extend(ranges: &mut [Range], dealt: Dealt) -> Result<(), Memory>
 }
 
 /// Returns an empty list for each piece. Each has room for an even share of so many updates. Err: out of memory.
-fn no_updates(alloc: Global, cuts: &Cuts, updates: usize) -> Result<Vec<Bodies>, Memory>
+fn no_updates(alloc: Global, cuts: &Cuts, updates: usize) -> Result<Vec<Stream>, Memory>
     ensures { IfOk result (λ lists. lists.items ≡ dealt_by cuts.now []) }
 {
     let pieces = cuts.pieces();
     let share = updates / pieces as usize;
     let mut lists = Vec::new(alloc);
     for _ in 0..pieces {
-        lists.push(Bodies::with_capacity(alloc, share, share.saturating_mul(BODY))?)?;
+        lists.push(Stream::with_capacity(alloc, share.saturating_mul(TEXT))?)?;
     }
     Ok(lists)
 }
@@ -189,7 +178,7 @@ fn deal_share(
     window: Window,
     cuts: &[Key],
     heads: &[u64],
-    lists: &mut [Bodies],
+    lists: &mut [Stream],
 ) -> Result<(), Memory>
     requires lawful { AreCuts cuts.now }
     requires heads { heads.now ≡ map slice_in cuts.now }
@@ -210,7 +199,7 @@ fn deal(
     window: Window,
     cuts: &[Key],
     heads: &[u64],
-    lists: &mut [Bodies],
+    lists: &mut [Stream],
 ) -> Result<(), Memory>
     requires lawful { AreCuts cuts.now }
     requires heads { heads.now ≡ map slice_in cuts.now }

@@ -10,13 +10,13 @@ ghost use Rattle.mt_replay.specs.Pieces.{IsPiece, IsMapIn};
 ghost use Rattle.mt_replay.specs.Ranges.{dealt_by};
 
 use crate::auditor::clashes_of;
-use crate::bodies::Text;
 use crate::clash::Clash;
 use crate::dealing::Range;
 use crate::parts::{add_parts, shared_in};
 use crate::replay::replay_sorted;
 use crate::sorting::sorted_texts;
 use crate::{Cuts, SortedUpdates};
+use mt_record::Text;
 use mt_words::{Memory, PairSink};
 use std::alloc::Global;
 use std::marker::Model;

@@ -5,9 +5,9 @@ ghost use Rattle.mt_replay.specs.Cuts.{InKeyOrder};
 ghost use Rattle.mt_replay.specs.Steps.Merging.{IsFrom, IsMerging, IsMerged};
 ghost use Rattle.mt_replay.specs.Steps.Numbers.{places, in_turn};
 
-use crate::bodies::Text;
 use crate::sorted_updates::comes_before;
 use crate::sorting::place_of;
+use mt_record::Text;
 use mt_words::Memory;
 use std::alloc::Global;
 

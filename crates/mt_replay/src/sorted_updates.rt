@@ -6,10 +6,8 @@ ghost use Rattle.mt_words.specs.Words.{AreRising};
 ghost use Rattle.mt_replay.specs.Survivors.{wholes};
 ghost use Rattle.mt_replay.specs.Cuts.{is_below, InKeyOrder};
 
-use crate::bodies::{Bodies, Text};
-use crate::dealing::add_texts;
 use crate::sorting::sorted_texts;
-use mt_record::{KeptEntries, Lent};
+use mt_record::{Bodies, KeptEntries, Lent, Stream, Text};
 use mt_words::Memory;
 use std::alloc::Global;
 use std::marker::Model;
@@ -114,13 +112,13 @@ pub(crate) fn comes_before(first: &[u8], second: &[u8]) -> bool
     first.cmp(second).is_lt()
 }
 
-/// Copies these bodies in the order of their keys. Err: out of memory.
+/// Copies these updates in the order of their keys. Err: out of memory.
 #[tactic(auto, using(crate::proofs::NumberLemmas::alike_none, crate::proofs::MergeLemmas::none_in_order))]
-pub(crate) fn in_order(alloc: Global, bodies: &Bodies) -> Result<SortedUpdates, Memory>
-    ensures { IfOk result (λ sorted. IsPermutation bodies.now sorted) }
+pub(crate) fn in_order(alloc: Global, updates: &Stream) -> Result<SortedUpdates, Memory>
+    ensures { IfOk result (λ sorted. IsPermutation updates.now sorted) }
 {
-    let mut texts = Vec::with_capacity(alloc, bodies.len())?;
-    add_texts(&mut texts, bodies)?;
+    let mut texts = Vec::with_capacity(alloc, updates.len())?;
+    updates.add_to(&mut texts)?;
     let sorted = sorted_texts(alloc, texts, 0, &[])?;
     gather(alloc, &sorted)
 }

@@ -12,8 +12,8 @@ ghost use Rattle.std.specs.Cmp.Lexicographic.{slice_cmp};
 ghost use Rattle.mt_replay.specs.Cuts.{InKeyOrder};
 ghost use Rattle.mt_replay.specs.Steps.Numbers.{places, rest_of, rests, AreInOrder, BeginsWith, AreAlike};
 
-use crate::bodies::Text;
 use crate::merging::merge;
+use mt_record::Text;
 use mt_words::{Memory, slice_of};
 use std::alloc::Global;
 use std::cmp::Ordering;

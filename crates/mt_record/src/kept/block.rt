@@ -92,8 +92,8 @@ impl Block {
     }
 
     /// Appends a text. Err: out of memory; nothing is appended.
-    // Each record of a log passes through here when it is scanned, and through `push_joined` when it is dealt. Without
-    // inlining, the calls alone are a thirtieth of all instructions.
+    // Each record of a log passes through here when it is scanned. Without inlining, the calls alone are a thirtieth of all
+    // instructions.
     #[inline(always)]
     pub(crate) fn push(&mut self, text: &[u8]) -> Result<(), Memory>
         ensures ok { OnOk result (self.new ≡ self.old ++ text.now ∷ []) }

@@ -2,10 +2,9 @@
 ghost use Rattle.std.specs.Prelude.{◌≡◌, ◌++◌, [], ◌∷◌, IfOk, OnOk, IsPermutation, filter};
 ghost use Rattle.mt_replay.specs.InMemory.{survives as survives_in, survives_with};
 
-use crate::bodies::Bodies;
 use crate::sorted_updates::in_order;
 use crate::{SortedUpdates, Window};
-use mt_record::body_of_update;
+use mt_record::{Stream, body_of_update};
 use mt_words::{Kind, Memory, Update};
 use std::alloc::Global;
 
@@ -26,24 +25,24 @@ pub(crate) fn spell(
     updates: &[Update],
     window: Window,
     entries: bool,
-) -> Result<Bodies, Memory>
-    ensures { IfOk result (λ bodies. bodies ≡ filter (survives_with entries window) updates.now) }
+) -> Result<Stream, Memory>
+    ensures { IfOk result (λ stream. stream ≡ filter (survives_with entries window) updates.now) }
 {
-    let mut bodies = Bodies::with_capacity(alloc, updates.len(), 0)?;
+    let mut stream = Stream::with_capacity(alloc, 0)?;
     for update in updates {
         if survives(update, window, entries) {
-            add_body(alloc, &mut bodies, update)?;
+            add_body(alloc, &mut stream, update)?;
         }
     }
-    Ok(bodies)
+    Ok(stream)
 }
 
 /// Appends the body of an update. Err: out of memory.
-fn add_body(alloc: Global, bodies: &mut Bodies, update: &Update) -> Result<(), Memory>
-    ensures { OnOk result (bodies.new ≡ bodies.old ++ update.now ∷ []) }
+fn add_body(alloc: Global, stream: &mut Stream, update: &Update) -> Result<(), Memory>
+    ensures { OnOk result (stream.new ≡ stream.old ++ update.now ∷ []) }
 {
     let body = body_of_update(alloc, update)?;
-    bodies.push(update.stamp.origin, &body)?;
+    stream.push(update.stamp.origin, &body)?;
     Ok(())
 }
 

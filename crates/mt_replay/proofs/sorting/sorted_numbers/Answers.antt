@@ -4,7 +4,7 @@ use Rattle.std.specs.List.{range_with_len}
 use Rattle.std.proofs.Math.Nat.{mod-eq_of_lt}
 use Rattle.std.proofs.lemmas.Grind.{common_steps}
 use Rattle.mt_words.specs.declared.update.Update.{Update}
-use Rattle.mt_replay.specs.Steps.Bodies.{update_in_text}
+use Rattle.mt_record.specs.Steps.Texts.{update_in_text}
 use Rattle.mt_replay.specs.Steps.Numbers.{places, rests}
 use Rattle.mt_replay.proofs.NumberLemmas.{range_more, alike_rests}
 use Rattle.mt_replay.proofs.sorting.sorted_numbers.Goals as goal

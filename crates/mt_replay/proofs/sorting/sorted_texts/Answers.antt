@@ -4,7 +4,7 @@ use Rattle.std.proofs.lemmas.List.Sorted.{IsPermutation-trans, IsPermutation-app
 use Rattle.std.proofs.lemmas.Result.{IfOk-weaker}
 use Rattle.mt_words.specs.declared.update.Update.{Update}
 use Rattle.mt_replay.specs.Cuts.{InKeyOrder}
-use Rattle.mt_replay.specs.Steps.Bodies.{update_in_text}
+use Rattle.mt_record.specs.Steps.Texts.{update_in_text}
 use Rattle.mt_replay.specs.Steps.Numbers.{places, in_turn}
 use Rattle.mt_replay.proofs.NumberLemmas.{places_within, in_turn_moved, in_turn_in_order}
 use Rattle.mt_replay.proofs.sorting.sorted_texts.Goals as goal

@@ -1,8 +1,8 @@
 use Rattle.std.proofs.Common.{◌≡◌, [], ◌∷◌, ◌++◌, ℕ, List, Result, Ok, Err, OnOk, OnErr, sym, subst}
 use Rattle.std.specs.List.{All}
 use Rattle.std.proofs.lemmas.List.Elements.{All-push}
-use Rattle.mt_replay.specs.Steps.Bodies.{IsUpdateText}
-use Rattle.mt_replay.proofs.bodies.Bodies.push_text.Goals as goal
+use Rattle.mt_record.specs.Steps.Texts.{IsUpdateText}
+use Rattle.mt_record.proofs.kept.bodies.Bodies.push_text.Goals as goal
 
 -- one text more
 all_told : {T E : Type 0} (pushed : Result T E) (old new : List (List ℕ)) (text : List ℕ) → OnOk pushed (new ≡ old ++ text ∷ []) → OnErr pushed (new ≡ old) → IsUpdateText text → All IsUpdateText old → All IsUpdateText new
