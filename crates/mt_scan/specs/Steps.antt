@@ -8,3 +8,4 @@ pub mod Rising
 pub mod Checkpoints
 pub mod Groups
 pub mod Selections
+pub mod Stretches

@@ -1,5 +1,6 @@
 //! The feed of a scan that drops late records.
-ghost use Rattle.std.specs.Prelude.{◌≡◌, None, false, ◌≤◌, ◌<◌, ◌++◌, ◌^◌, [], List, ℕ, length, min, ◌+◌, ◌-◌, IfOk, IfErr, IsErr};
+ghost use Rattle.std.specs.Prelude.{◌≡◌, None, false, ◌≤◌, ◌<◌, ◌++◌, ◌^◌, [], List, ℕ, length, min, ◌+◌, ◌-◌, IfOk, IfSome, IfErr, IsErr};
+ghost use Rattle.mt_record.specs.LogFeeding.{IsFedBehind};
 ghost use Rattle.mt_scan.specs.Scans.{IsLogVerdict, failures_of};
 ghost use Rattle.mt_scan.specs.Dropping.{HasAllBelow, KeepsOnlyBelow};
 ghost use Rattle.mt_scan.specs.Steps.DroppingFeeds.{IsFedBelow, HasDropped, HasStopped};
@@ -47,6 +48,35 @@ impl DroppingFeed {
             self.drop_late(limit);
         }
         goes_on
+    }
+
+    /// Does what `feed_below` does. `ahead` was fed the chunk behind a header.
+    pub fn feed_ahead_below(
+        &mut self,
+        ahead: Option<LogFeed<KeptRecords>>,
+        piece: &[u8],
+        limit: u64,
+    ) -> bool
+        requires { IfSome ahead (λ ahead. IsFedBehind ahead piece.now) }
+        ensures fed { (before : ℕ) (bytes : List ℕ) → limit ≤ before → IsFedBelow self.old before bytes →
+            IsFedBelow self.new limit (bytes ++ piece.now) }
+        ensures stops { result ≡ false → HasStopped self.new }
+    {
+        let Some(ahead) = ahead else {
+            return self.feed_below(piece, limit);
+        };
+        let goes_on = self.feed.feed_ahead(ahead, piece).is_ok();
+        if goes_on {
+            self.drop_late(limit);
+        }
+        goes_on
+    }
+
+    /// Returns a feed that has read the header of this log alone. Returns None if this feed has not read the header.
+    pub fn behind_header(&self, alloc: Global) -> Option<LogFeed<KeptRecords>>
+        ensures { (limit : ℕ) (bytes : List ℕ) → IsFedBelow self.now limit bytes → IfSome result (λ begun. IsFedBehind begun []) }
+    {
+        self.feed.behind_header(alloc)
     }
 
     /// Drops the records at or past the limit. Timestamps do not fall, so these are the last ones.
