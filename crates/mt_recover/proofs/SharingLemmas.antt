@@ -1,8 +1,6 @@
 -- Jobs that are dealt to shares, and their answers.
 use Rattle.std.proofs.Common.{◌≡◌, ◌∙◌, ◌<◌, ◌+◌, ℕ, suc, Option, Some, None, List, [], ◌∷◌, ◌++◌, length, map, get_or, slice_get, IsPermutation, refl, sym, ap, subst, append-nil, arith}
 use Rattle.std.specs.Prelude.{slice_index_or, slice_set, take, drop, Result, Ok, IfOk}
-use Rattle.std.specs.Fn.{Shared}
-use Rattle.std.specs.Fork.{GivesJobs}
 use Rattle.std.specs.List.{All, AllByRecursion, AllZip, FoldsTo, enumerate_from, flat_map}
 use Rattle.std.proofs.Math.Seq.{take-append_seam}
 use Rattle.std.proofs.lemmas.List.{map-append, nil_from_length}
@@ -78,23 +76,6 @@ all_yielded all yielded left whole end = sym (append-nil yielded) ∙ ap (λ l. 
 -- one more answer that is Ok
 pub done_more : {X E : Type 0} (answers : List (Result X E)) (done after : List X) (answer : Result X E) (one : X) → answers ≡ map Ok done → answer ≡ Ok one → after ≡ done ++ one ∷ [] → answers ++ answer ∷ [] ≡ map Ok after
 done_more answers done after answer one are is pushed = ap (λ l. l ++ answer ∷ []) are ∙ ap (λ a. map Ok done ++ a ∷ []) is ∙ sym (map-append Ok done (one ∷ [])) ∙ ap (map Ok) (sym pushed)
-
--- ---- all shares
-
--- if each call gives R, R holds for all jobs and their answers
-pub zip_of_jobs : {A B F : Type 0} (R : A → B → Type 0) (g : Shared F (A × Unit {0}) B) (f : F) (xs : List A) (ys : List B) → length ys ≡ length xs → GivesJobs g f xs ys → ((x : A) (y : B) → g.post f (x, tt) y → R x y) → AllZip R xs ys
-zip_of_jobs {A} {B} R g f xs ys long gives each = zip_by_index R xs ys long (λ i x y lt p q.
-    let given = (gives i y lt).1 in
-    let same : given.job ≡ x = sym (given.job_is x) ∙ sym p in
-    let met : g.post f (given.job, tt) y = subst (λ (b : B). g.post f (given.job, tt) b) (sym q) given.call.met in
-    each x y (subst (λ (a : A). g.post f (a, tt) y) same met))
-  where
-    zip_by_index : {A B : Type 0} (R : A → B → Type 0) (xs : List A) (ys : List B) → length ys ≡ length xs → ((i : ℕ) (x : A) (y : B) → i < length xs → x ≡ slice_index_or xs i x → y ≡ slice_index_or ys i y → R x y) → AllZip R xs ys
-    zip_by_index R [] [] long each = tt
-    zip_by_index R [] (y ∷ ys) long each = absurd (omega (arith, long))
-    zip_by_index R (x ∷ xs) [] long each = absurd (omega (arith, long))
-    zip_by_index R (x ∷ xs) (y ∷ ys) long each =
-        (each 0 x y (omega arith) refl refl, zip_by_index R xs ys (omega (arith, long)) (λ i a b lt p q. each (suc i) a b (omega (arith, lt)) p q))
 
 -- ---- answers
 

@@ -1,6 +1,7 @@
 //! Scans all logs and checkpoint parts. The scans of logs share a board with the least last timestamp so far. Each
 //! drops the updates at or past that timestamp: they are too late to survive.
 ghost use Rattle.std.specs.Prelude.{◌≡◌, ◌<◌, ◌≤◌, ◌++◌, [], ◌∷◌, map, length, max, All, IfOk, OnOk, option_to_list};
+ghost use denote.Param.Send.{IsSend, IsSync};
 ghost use Rattle.std.specs.Vec.Iter.{into_iter_items};
 ghost use Rattle.mt_board.specs.Board.{nothing_noted};
 ghost use Rattle.mt_recover.specs.Steps.Outcomes.{AreOutcomes, in_memory, read_parts};
@@ -9,7 +10,7 @@ ghost use Rattle.mt_recover.specs.Steps.Scanning.{AreGathered, HasScanned, IsFre
 use crate::by_workers::{all_done, close, deal, gather, in_turn, on_threads, unzip};
 use crate::{Inputs, Workers};
 use mt_board::{Board, Pass};
-use mt_scan::{LogScan, PartScan, Source, scan_bytes, scan_part, scan_shared};
+use mt_scan::{LogScan, PartScan, Source, scan_by_workers, scan_bytes, scan_part, scan_shared};
 use mt_words::{Fault, Memory};
 use std::alloc::Global;
 use std::collections::VecDeque;
@@ -74,8 +75,9 @@ pub(crate) fn scan_one<S: Source>(alloc: Global, inputs: Inputs<S>) -> Result<Ou
     gather_scans(alloc, board, all_done(alloc, scans)?)
 }
 
-/// Does the same as `scan_one`, but on several threads. Drops the updates of a log at or past the least last timestamp
-/// of the logs that any thread has scanned by then.
+/// Does the same as `scan_one`, but on several threads. If there are fewer sources than workers, several threads scan
+/// each log. Drops the updates of a log at or past the least last timestamp of the logs that any thread has scanned by
+/// then.
 pub(crate) fn scan_all<R: Threads + Sync, S: Source + Send>(
     rt: &R,
     alloc: Global,
@@ -86,11 +88,15 @@ pub(crate) fn scan_all<R: Threads + Sync, S: Source + Send>(
 {
     let jobs = jobs_of(alloc, inputs)?;
     let (board, shares) = share_out(alloc, jobs, workers.count())?;
+    let threads = workers.count() as usize / shares.len();
     let scans = on_threads(
         rt,
         shares,
         workers,
-        &|share: Share<S>| { scan_jobs(alloc, &board, share) },
+        &|share: Share<S>| -> Result<Scans, Memory>
+            requires { IsSync R.row × IsSend S.row × IsFresh board share.1 }
+            ensures { IfOk result (λ scans. HasScanned S.seen share.0.items (into_iter_items scans.0) share.1 scans.1) }
+        { scan_on_threads(rt, alloc, threads, &board, share) },
     )?;
     gather_scans(alloc, board, all_done(alloc, scans)?)
 }
@@ -173,6 +179,49 @@ fn scan<S: Source>(alloc: Global, job: ScanJob<S>, board: &Board, pass: &mut Pas
             Scanned::Log(scan_shared(alloc, &mut source, number, board, pass))
         }
         ScanJob::Part(number, mut source) => Scanned::Part(scan_part(alloc, &mut source, number)),
+    }
+}
+
+/// Does what `scan_jobs` does, on this many threads.
+fn scan_on_threads<R: Threads + Sync, S: Source + Send>(
+    rt: &R,
+    alloc: Global,
+    threads: usize,
+    board: &Board,
+    share: Share<S>,
+) -> Result<Scans, Memory>
+    requires { IsFresh board.now share.1 }
+    ensures { IfOk result (λ scans. HasScanned S.seen share.0.items (into_iter_items scans.0) share.1 scans.1) }
+{
+    let (jobs, mut pass) = share;
+    let mut answers = Vec::with_capacity(alloc, jobs.len())?;
+    for job in Vec::from(jobs) {
+        answers.push(scan_by_threads(rt, alloc, threads, job, board, &mut pass))?;
+    }
+    Ok((answers.into_iter(), pass))
+}
+
+/// Does what `scan` does, but several threads, if there are, scan a log.
+fn scan_by_threads<R: Threads + Sync, S: Source + Send>(
+    rt: &R,
+    alloc: Global,
+    threads: usize,
+    job: ScanJob<S>,
+    board: &Board,
+    pass: &mut Pass,
+) -> Scanned
+    requires board { pass.old.board ≡ board.now }
+    requires noted { pass.old.noted ≤ nothing_noted }
+    ensures { HasScanned S.seen (job ∷ []) (result ∷ []) pass.old pass.new }
+{
+    if threads < 2 {
+        return scan(alloc, job, board, pass);
+    }
+    match job {
+        ScanJob::Log(number, source) => Scanned::Log(scan_by_workers(
+            rt, alloc, source, number, threads, board, pass,
+        )),
+        part => scan(alloc, part, board, pass),
     }
 }
 

@@ -1,5 +1,5 @@
 use Rattle.std.proofs.Common.{arith}
-use Rattle.mt_recover.proofs.SharingLemmas.{zip_of_jobs}
+use Rattle.mt_scan.proofs.Stretched.{zip_of_jobs}
 use Rattle.mt_recover.proofs.by_workers.on_threads.Goals as goal
 
 pub returns : goal.returns
