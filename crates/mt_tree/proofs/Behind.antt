@@ -12,11 +12,11 @@ use Rattle.mt_tree.specs.Steps.Pairs.{key_rank, weight}
 use Rattle.mt_tree.specs.Steps.Seams.{Meet, first_slice_of}
 use Rattle.mt_tree.specs.Steps.Falls.{weight-append, walk-append, layer_back, joined-append}
 use Rattle.mt_tree.specs.Nodes.{IsBorder}
-use Rattle.mt_tree.specs.Borders.{DraftView, borders_walk, layer_walk}
-use Rattle.mt_tree.specs.Steps.DraftViews.{border_views, draft_of, IsStored, IsOpen, IsOpened, PutBehind}
+use Rattle.mt_tree.specs.Borders.{DraftView, AreBorders, borders_walk, layer_walk}
+use Rattle.mt_tree.specs.Steps.DraftViews.{border_views, draft_of, IsLawfulLink, HaveLawfulLinks, IsStored, IsOpen, IsOpened, PutBehind, CanFollow, LastMeets, HaveFollowed}
 use Rattle.mt_tree.specs.declared.layer.Border.{Border}
 use Rattle.mt_tree.specs.declared.layer.Border.TheVariants.{Open}
-use Rattle.mt_tree.proofs.Joins.{Seam, apart_layer, layer_seam, last_place, put_before-append, below_unprefixed, below_lighter, slice_at-draft, slice_at-lt, all_append, all_back}
+use Rattle.mt_tree.proofs.Joins.{Seam, apart_layer, layer_seam, last_place, put_before-append, below_unprefixed, below_lighter, slice_at-draft, slice_at-lt, all_append, all_front, all_back}
 use Rattle.mt_tree.proofs.Finds.{pairs_rank}
 use Rattle.mt_tree.proofs.Puts.{borders-append, popped_open}
 use Rattle.mt_tree.proofs.Seams.{behind_are}
@@ -27,15 +27,6 @@ use Rattle.mt_tree.specs.declared.place.Content.{Content}
 use Rattle.mt_tree.specs.declared.place.Content.TheVariants.{Link}
 
 -- ---- the last place
-get_last : (xs : List (Place DraftView)) (p d : Place DraftView) → get_or (xs ++ p ∷ []) (length (xs ++ p ∷ []) - 1) d ≡ p
-get_last [] p d = let at : length (p ∷ []) - 1 ≡ 0 = omega arith in ap (λ (k : ℕ). get_or (p ∷ []) k d) at
-get_last (x ∷ xs) p d =
-    let at : length (x ∷ (xs ++ p ∷ [])) - 1 ≡ suc (length (xs ++ p ∷ []) - 1) = omega (arith, length-append xs (p ∷ [])) in
-    ap (λ (k : ℕ). get_or (x ∷ (xs ++ p ∷ [])) k d) at ∙ get_last xs p d
-
-same_last : (places xs : List (Place DraftView)) (x p : Place DraftView) → places ≡ xs ++ p ∷ [] → x ≡ get_or places (length places - 1) x → x ≡ p
-same_last places xs x p e f = f ∙ ap (λ (z : List (Place DraftView)). get_or z (length z - 1) x) e ∙ get_last xs p x
-
 -- x is the last item of xs, which has n; and the list with another last item
 pub record LastAt {X : Type 0} (xs : List X) (n : ℕ) (x : X) : Type 0 where
   pub front : List X
@@ -58,6 +49,11 @@ last_at {X} xs n x some whole e =
     let at : n - 1 ≡ length l.0 = omega (arith, whole, ap (λ (z : List X). length z) l.1, length-append l.0 (x ∷ [])) in
     record { front = l.0; is = l.1; changed = λ y. (λ i. set (l.1 i) (at i) y) ∙ set-append_seam l.0 x [] y }
 
+has_last : {X : Type 0} (xs : List X) → 1 ≤ length xs → (front : List X) × (x : X) × (xs ≡ front ++ x ∷ [])
+has_last [] h = absurd (omega arith)
+has_last {X} (y ∷ []) h = ([], y, refl)
+has_last {X} (y ∷ z ∷ zs) h = let rest = has_last (z ∷ zs) (omega arith) in (y ∷ rest.0, rest.1, ap (λ (k : List X). y ∷ k) rest.2)
+
 front_layer : (places xs : List (Place DraftView)) (p : Place DraftView) → IsRanked (views layer_walk places) → places ≡ xs ++ p ∷ [] → IsRanked (views layer_walk xs ++ view_of layer_walk p ∷ [])
 front_layer places xs p h e = subst IsRanked (ap (views layer_walk) e ∙ map-append (view_of layer_walk) xs (p ∷ [])) h
 
@@ -76,24 +72,42 @@ walk_last places xs p e =
 key_at : (key : List ℕ) (c : List (ℕ × List ℕ)) (q : Place DraftView) → IsPlace (view_of layer_walk q) → pairs_at (view_of layer_walk q) ≡ (key, c) ∷ [] → key_rank key ≡ rank_at (view_of layer_walk q)
 key_at key c q h e = (subst (AllByRecursion (λ (p : Pair). key_rank p.0 ≡ rank_at (view_of layer_walk q))) e (pairs_rank (view_of layer_walk q) h)).0
 
-pub own_layer : (places after : List (Place DraftView)) (x q : Place DraftView) (key : List ℕ) (c : List (ℕ × List ℕ)) (slice : ℕ) → IsRanked (views layer_walk places) → 1 ≤ length places → x ≡ get_or places (length places - 1) x
-    → AllKeysBelow (walk (views layer_walk places)) ((key, c) ∷ []) → slice ≡ slice_in key → ((x.slice ≡ slice) × (length_at (view_of layer_walk x) ≡ 9) × (8 < length key) → ⊥)
+own_layer : (places after : List (Place DraftView)) (q : Place DraftView) (key : List ℕ) (c : List (ℕ × List ℕ)) → CanFollow (key, c) places → (LastMeets key places → ⊥)
     → IsPlace (view_of layer_walk q) → pairs_at (view_of layer_walk q) ≡ (key, c) ∷ [] → after ≡ places ++ q ∷ [] → IsRanked (views layer_walk after)
-own_layer places after x q key c slice h some last below is other lawful pairs e =
-    let l = last_of places x some last in
+own_layer places after q key c can other lawful pairs e =
+    let l = has_last places can.some in
+    let x : Place DraftView = l.1 in
     let rank : key_rank key ≡ rank_at (view_of layer_walk q) = key_at key c q lawful pairs in
     let few = length_at-le (view_of layer_walk q) lawful in
     let alone : walk (views layer_walk (q ∷ [])) ≡ (key, c) ∷ [] = append-nil (pairs_at (view_of layer_walk q)) ∙ pairs in
     let s : Seam l.0 x q [] = record {
-      left = subst (λ (z : List (Place DraftView)). IsRanked (views layer_walk z)) l.1 h;
+      left = subst (λ (z : List (Place DraftView)). IsRanked (views layer_walk z)) l.2 can.lawful;
       right = (lawful, omega arith, tt);
-      below = subst (λ (z : List (Place DraftView)). AllKeysBelow (walk (views layer_walk z)) (walk (views layer_walk (q ∷ [])))) l.1 (subst (AllKeysBelow (walk (views layer_walk places))) (sym alone) below);
+      below = subst (λ (z : List (Place DraftView)). AllKeysBelow (walk (views layer_walk z)) (walk (views layer_walk (q ∷ [])))) l.2 (subst (AllKeysBelow (walk (views layer_walk places))) (sym alone) can.below);
     } in
     let apart : Meet (view_of layer_walk x) (view_of layer_walk q) → ⊥ =
     λ m. let same : slice_at (view_of layer_walk x) ≡ slice_at (view_of layer_walk q) = m.0 in
     let long : length_at (view_of layer_walk q) ≡ 9 = m.2 in
-    other (omega (arith, same, rank, long, is, slice_at-draft x), m.1, omega (arith, rank, long)) in
-    subst (λ (z : List (Place DraftView)). IsRanked (views layer_walk z)) (sym (append_assoc l.0 (x ∷ []) (q ∷ [])) ∙ ap (λ (z : List (Place DraftView)). z ++ q ∷ []) (sym l.1) ∙ sym e) (apart_layer l.0 x q [] s apart)
+    other (record { front = l.0; last = x; is = l.2; slice = omega (arith, same, rank, long, slice_at-draft x); long = m.1; longer = omega (arith, rank, long) }) in
+    subst (λ (z : List (Place DraftView)). IsRanked (views layer_walk z)) (sym (append_assoc l.0 (x ∷ []) (q ∷ [])) ∙ ap (λ (z : List (Place DraftView)). z ++ q ∷ []) (sym l.2) ∙ sym e) (apart_layer l.0 x q [] s apart)
+
+first_kept : (xs ys : List (Place DraftView)) → 1 ≤ length xs → first_slice_of (views layer_walk (xs ++ ys)) ≡ first_slice_of (views layer_walk xs)
+first_kept [] ys some = absurd (omega arith)
+first_kept (x ∷ xs) ys some = refl
+
+pub own_followed : (places after : List (Place DraftView)) (q : Place DraftView) (key : List ℕ) (c : List (ℕ × List ℕ)) → CanFollow (key, c) places → (LastMeets key places → ⊥)
+    → IsPlace (view_of layer_walk q) → IsLawfulLink q.content → pairs_at (view_of layer_walk q) ≡ (key, c) ∷ [] → after ≡ places ++ q ∷ [] → HaveFollowed (key, c) places after
+own_followed places after q key c can apart lawful linked pairs e =
+    let size = ap (λ (z : List (Place DraftView)). length z) e in
+    let some = can.some in
+    record {
+      pairs = walk_last after places q e ∙ ap (λ (w : List Pair). walk (views layer_walk places) ++ w) pairs;
+      lawful = own_layer places after q key c can apart lawful pairs e;
+      links = subst HaveLawfulLinks (sym e) (all_append (λ p. IsLawfulLink p.content) places (q ∷ []) can.links (linked, tt));
+      first = ap (λ (z : List (Place DraftView)). first_slice_of (views layer_walk z)) e ∙ first_kept places (q ∷ []) some;
+      some = omega (arith, size, some, length-append places (q ∷ []));
+      more = omega (arith, size, length-append places (q ∷ []));
+    }
 
 -- ---- below the last place
 pub record Deeper (p : Place DraftView) (slice : ℕ) (key : List ℕ) (c : List (ℕ × List ℕ)) (upper : List Pair) : Type 0 where
@@ -107,19 +121,38 @@ pub record Deeper (p : Place DraftView) (slice : ℕ) (key : List ℕ) (c : List
   pub some : 0 < length upper
   pub keys : HasNoEmptyKey upper
 
-pub deeper : (places xs : List (Place DraftView)) (x p : Place DraftView) (slice n : ℕ) (key : List ℕ) (c : List (ℕ × List ℕ)) (upper : List Pair) → IsRanked (views layer_walk places) → places ≡ xs ++ p ∷ [] → x ≡ get_or places (n - 1) x → n ≡ length places
-    → (x.slice ≡ slice) × (length_at (view_of layer_walk x) ≡ 9) × (8 < length key) → slice ≡ slice_in key → AreBytes key
-    → put_before (slice_bytes p.slice) upper ≡ pairs_at (view_of layer_walk p) → 0 < length upper → HasNoEmptyKey upper → Deeper p slice key c upper
-deeper places xs x p slice n key c upper h e last whole there is_slice bytes upper_is some keys =
-    let here : x ≡ p = same_last places xs x p e (last ∙ ap (λ (k : ℕ). get_or places (k - 1) x) whole) in
-    let met = subst (λ (q : Place DraftView). (q.slice ≡ slice) × (length_at (view_of layer_walk q) ≡ 9) × (8 < length key)) here there in
+met_here : (places xs : List (Place DraftView)) (p : Place DraftView) (key : List ℕ) → LastMeets key places → places ≡ xs ++ p ∷ [] → (p.slice ≡ slice_in key) × (length_at (view_of layer_walk p) ≡ 9)
+met_here places xs p key m e =
+    let same : m.last ≡ p = (same_from_push m.front xs m.last p (sym m.is ∙ e)).1 in
+    subst (λ (q : Place DraftView). (q.slice ≡ slice_in key) × (length_at (view_of layer_walk q) ≡ 9)) same (m.slice, m.long)
+
+-- the last place as the code looked at it, which meets the key or not
+module _ (places : List (Place DraftView)) (n : ℕ) (x : Place DraftView) (key : List ℕ) (slice : ℕ) (some : 1 ≤ length places) (whole : n ≡ length places) (e : x ≡ get_or places (n - 1) x) (is_slice : slice ≡ slice_in key) where
+  pub last_meets : (x.slice ≡ slice) × (length_at (view_of layer_walk x) ≡ 9) × (8 < length key) → LastMeets key places
+  last_meets met =
+      let l = last_at places n x some whole e in
+      record { front = l.front; last = x; is = l.is; slice = met.0 ∙ is_slice; long = met.1; longer = met.2 }
+
+  pub last_apart : ((x.slice ≡ slice) × (length_at (view_of layer_walk x) ≡ 9) × (8 < length key) → ⊥) → LastMeets key places → ⊥
+  last_apart other m =
+      let l = last_at places n x some whole e in
+      let here = met_here places l.front x key m l.is in
+      other (here.0 ∙ sym is_slice, here.1, m.longer)
+
+pub met_long : (places xs : List (Place DraftView)) (p : Place DraftView) (key : List ℕ) → LastMeets key places → places ≡ xs ++ p ∷ [] → length_at (view_of layer_walk p) ≡ 9
+met_long places xs p key m e = (met_here places xs p key m e).1
+
+pub deeper : (places xs : List (Place DraftView)) (p : Place DraftView) (slice : ℕ) (key : List ℕ) (c : List (ℕ × List ℕ)) (upper : List Pair) → IsRanked (views layer_walk places) → LastMeets key places → places ≡ xs ++ p ∷ []
+    → slice ≡ slice_in key → AreBytes key → put_before (slice_bytes p.slice) upper ≡ pairs_at (view_of layer_walk p) → 0 < length upper → HasNoEmptyKey upper → Deeper p slice key c upper
+deeper places xs p slice key c upper h m e is_slice bytes upper_is some keys =
+    let here = met_here places xs p key m e in
     record {
       place = popped_lawful places xs p h e;
-      same = met.0;
-      long = met.1;
+      same = here.0 ∙ sym is_slice;
+      long = here.1;
       is_slice = is_slice;
       bytes = bytes;
-      longer = met.2;
+      longer = m.longer;
       upper_is = upper_is;
       some = some;
       keys = keys;
@@ -134,16 +167,15 @@ pub record Linked (places : List (Place DraftView)) (n at slice : ℕ) (lower : 
   pub last : LastAt places n (linking at lower)
   pub below : Deeper (linking at lower) slice key c (layer_walk lower)
 
-pub linked_last : (places : List (Place DraftView)) (n slice : ℕ) (x y : Place DraftView) (lower : DraftView) (key : List ℕ) (c : List (ℕ × List ℕ)) → IsRanked (views layer_walk places) → 1 ≤ length places → n ≡ length places
-    → y ≡ get_or places (n - 1) y → x ≡ get_or places (n - 1) x → x.content ≡ Link lower → (y.slice ≡ slice) × (length_at (view_of layer_walk y) ≡ 9) × (8 < length key) → slice ≡ slice_in key → AreBytes key
-    → Linked places n x.slice slice lower key c
-linked_last places n slice x y lower key c h some whole e f content met is_slice bytes =
+pub linked_last : (places : List (Place DraftView)) (n slice : ℕ) (x : Place DraftView) (lower : DraftView) (key : List ℕ) (c : List (ℕ × List ℕ)) → CanFollow (key, c) places → LastMeets key places → n ≡ length places
+    → x ≡ get_or places (n - 1) x → x.content ≡ Link lower → slice ≡ slice_in key → AreBytes key → Linked places n x.slice slice lower key c
+linked_last places n slice x lower key c can m whole f content is_slice bytes =
     let p = linking x.slice lower in
     let same : x ≡ p = ap (λ (z : Content DraftView). record { slice = x.slice; content = z }) content in
-    let last : LastAt places n p = subst (LastAt places n) same (last_at places n x some whole f) in
-    let lawful : IsPlace (view_of layer_walk p) = popped_lawful places last.front p h last.is in
+    let last : LastAt places n p = subst (LastAt places n) same (last_at places n x can.some whole f) in
+    let lawful : IsPlace (view_of layer_walk p) = popped_lawful places last.front p can.lawful last.is in
     let two : 2 ≤ length (layer_walk lower) = lawful.1 in
-    record { last = last; below = deeper places last.front y p slice n key c (layer_walk lower) h last.is e whole met is_slice bytes refl (omega (arith, two)) lawful.2 }
+    record { last = last; below = deeper places last.front p slice key c (layer_walk lower) can.lawful m last.is is_slice bytes refl (omega (arith, two)) lawful.2 }
 
 module _ (p : Place DraftView) (slice : ℕ) (key : List ℕ) (c : List (ℕ × List ℕ)) (upper : List Pair) (d : Deeper p slice key c upper) where
   whole_key : slice_bytes slice ++ drop 8 key ≡ key
@@ -197,6 +229,22 @@ module _ (p : Place DraftView) (slice : ℕ) (key : List ℕ) (c : List (ℕ × 
       ap first_slice_of (ap (views layer_walk) g ∙ map-append (view_of layer_walk) xs (m ∷ []))
       ∙ first_merged (views layer_walk xs) [] (view_of layer_walk p) (view_of layer_walk m) (slice_at-draft m ∙ own ∙ sym d.same ∙ sym (slice_at-draft p))
       ∙ sym (ap first_slice_of (ap (views layer_walk) e ∙ map-append (view_of layer_walk) xs (p ∷ [])))
+
+-- another last place, that links to a layer with one pair more, replaces the last one
+pub deeper_followed : (places xs after : List (Place DraftView)) (p m : Place DraftView) (slice : ℕ) (key rest : List ℕ) (c : List (ℕ × List ℕ)) (upper : List Pair) (lower : DraftView) → CanFollow (key, c) places → Deeper p slice key c upper → places ≡ xs ++ p ∷ [] → rest ≡ drop 8 key
+    → layer_walk lower ≡ upper ++ (rest, c) ∷ [] → AreBorders lower → m ≡ linking slice lower → after ≡ xs ++ m ∷ [] → HaveFollowed (key, c) places after
+deeper_followed places xs after p m slice key rest c upper lower can d e f is borders mine g =
+    let to : after ≡ xs ++ linking slice lower ∷ [] = g ∙ ap (λ (z : Place DraftView). xs ++ z ∷ []) mine in
+    let size = ap (λ (z : List (Place DraftView)). length z) to in
+    let was = ap (λ (z : List (Place DraftView)). length z) e in
+    record {
+      pairs = deeper_walk p slice key c upper d (layer_walk lower) rest is f places xs after (linking slice lower) e to refl;
+      lawful = deeper_layer p slice key c upper d (layer_walk lower) rest is f places xs after (linking slice lower) can.lawful e to refl;
+      links = subst HaveLawfulLinks (sym to) (all_append (λ q. IsLawfulLink q.content) xs (linking slice lower ∷ []) (all_front (λ q. IsLawfulLink q.content) xs (p ∷ []) (subst HaveLawfulLinks e can.links)) (borders, tt));
+      first = deeper_first p slice key c upper d places xs after (linking slice lower) e to refl;
+      some = omega (arith, size, length-append xs (linking slice lower ∷ []));
+      more = omega (arith, size, was, length-append xs (linking slice lower ∷ []), length-append xs (p ∷ []));
+    }
 
 -- ---- the last border
 pub record Opened (fs : List (List PlaceView)) (l : List PlaceView) (v : List (List PlaceView)) : Type 0 where

@@ -8,7 +8,7 @@ use Rattle.mt_tree.specs.Nodes.{LayerView, each_borders, IsLayerTree, AreLinked,
 use Rattle.mt_words.specs.Walks.{Pair, joined}
 use Rattle.mt_tree.specs.Borders.{IsBorderList, AreBorders, borders_walk, layer_walk, DraftView}
 use Rattle.mt_tree.specs.Steps.Seams.{SameEnds, first_slice_of}
-use Rattle.mt_tree.specs.Steps.DraftViews.{border_view, border_views, layers_of_border, draft_of, IsLawfulLink, HaveLawfulLinks, HasLawfulLinks, IsFirstOpen, IsLastOpen, IsStored, PutBehind, PutOpen, layers_under}
+use Rattle.mt_tree.specs.Steps.DraftViews.{border_view, border_views, layers_of_border, draft_of, IsLawfulLink, HaveLawfulLinks, HasLawfulLinks, IsFirstOpen, IsLastOpen, IsStored, PutBehind, PutOpen, layers_under, HaveFollowed, HavePushed}
 use Rattle.mt_tree.specs.declared.layer.Border.{Border}
 use Rattle.mt_tree.specs.declared.layer.Border.TheVariants.{Open, Closed}
 use Rattle.mt_tree.specs.declared.place.Content.TheVariants.{Short, Suffix, Link}
@@ -93,12 +93,10 @@ put_stored lb fs new l places own h e k some put = record {
 }
 
 -- if these places have those of the last border and one pair more, the layer is lawful and has one pair more
-pub appended : (lb fs new : List Border) (l : Vec (Place DraftView) Global) (places : List (Place DraftView)) (p : Pair) → IsStored lb → lb ≡ fs ++ Open l ∷ [] → PutOpen places fs new
-    → walk (views layer_walk places) ≡ walk (views layer_walk l.items) ++ p ∷ [] → first_slice_of (views layer_walk places) ≡ first_slice_of (views layer_walk l.items) → HaveLawfulLinks places → 1 ≤ length places
-    → IsStored new × (borders_walk (border_views new) ≡ borders_walk (border_views lb) ++ p ∷ [])
-appended lb fs new l places p stored e put pairs first links some =
-    let r = opened_put fs (views layer_walk l.items) (border_views lb) (opened lb fs l (draft_of lb) refl stored e) places new p put.put pairs first in
-    (put_stored lb fs new l places r.0 stored e links some put, r.1)
+pub appended : (lb fs new : List Border) (l : Vec (Place DraftView) Global) (places : List (Place DraftView)) (p : Pair) → IsStored lb → lb ≡ fs ++ Open l ∷ [] → PutOpen places fs new → HaveFollowed p l.items places → HavePushed p lb new
+appended lb fs new l places p stored e put followed =
+    let r = opened_put fs (views layer_walk l.items) (border_views lb) (opened lb fs l (draft_of lb) refl stored e) places new p put.put followed.pairs followed.first in
+    record { lawful = put_stored lb fs new l places r.0 stored e followed.links followed.some put; pairs = r.1 }
 
 pub put_moved : (xs ys : List (Place DraftView)) (a b new : List Border) → xs ≡ ys → a ≡ b → PutOpen xs a new → PutOpen ys b new
 put_moved xs ys a b new e f put = subst (λ (z : List (Place DraftView)). PutOpen z b new) e (subst (λ (z : List Border). PutOpen xs z new) f put)

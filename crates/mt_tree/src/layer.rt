@@ -13,7 +13,7 @@ ghost use Rattle.mt_tree.specs.Steps.Ranks.{IsRanked};
 ghost use Rattle.mt_tree.specs.Layer.{IsPlace, HasNoEmptyKey, AllKeysBelow};
 ghost use Rattle.mt_tree.specs.Steps.Seams.{Meet, first_slice_of, SameEnds, last_slice_of};
 ghost use Rattle.mt_tree.specs.Steps.Places.{view_of, views};
-ghost use Rattle.mt_tree.specs.Steps.DraftViews.{border_views, IsStored, IsLawfulLink, HaveLawfulLinks, IsOpen, IsOpened, PutBehind, PutOpen};
+ghost use Rattle.mt_tree.specs.Steps.DraftViews.{border_views, IsStored, IsLawfulLink, HaveLawfulLinks, IsOpen, IsOpened, PutBehind, PutOpen, CanFollow, LastMeets, HaveFollowed, HavePushed};
 ghost use Rattle.mt_tree.specs.Nodes.{IsBorder, SlicesBelow, SlicesFrom};
 ghost use Rattle.mt_tree.specs.Borders.{AreBorders, borders_walk, empty_draft, layer_walk};
 ghost use Rattle.mt_tree.specs.declared.layer.Border.TheVariants.{Open};
@@ -115,37 +115,34 @@ fn place_for(alloc: Global, key: &[u8], columns: PackedColumns) -> Result<Place<
     })
 }
 
-/// Appends a pair to the places of a border. If the last place is also the pair's, the pair goes below it. Otherwise
-/// it gets a place of its own. Err: out of memory.
-#[cycle(push)]
-fn follow(
+/// Appends a place of its own for a pair. Err: out of memory.
+fn push_own(
     alloc: Global,
     places: &mut Vec<Place<Layer>>,
     key: &[u8],
     columns: PackedColumns,
 ) -> Result<(), Memory>
-    requires lawful { IsRanked (views layer_walk places.old.items) }
-    requires some { 1 ≤ length places.old.items }
-    requires links { HaveLawfulLinks places.old.items }
-    requires below { AllKeysBelow (walk (views layer_walk places.old.items)) ((key.now, columns) ∷ []) }
-    ensures pairs { OnOk result (
-        walk (views layer_walk places.new.items) ≡ walk (views layer_walk places.old.items) ++ (key.now, columns) ∷ []) }
-    ensures lawful { OnOk result (IsRanked (views layer_walk places.new.items)) }
-    ensures links { OnOk result (HaveLawfulLinks places.new.items) }
-    ensures first { OnOk result (
-        first_slice_of (views layer_walk places.new.items) ≡ first_slice_of (views layer_walk places.old.items)) }
-    ensures some { OnOk result (1 ≤ length places.new.items) }
-    ensures more { OnOk result (length places.new.items ≤ length places.old.items + 1) }
+    requires can { CanFollow (key.now, columns) places.old.items }
+    requires apart { ¬ (LastMeets key.now places.old.items) }
+    ensures { OnOk result (HaveFollowed (key.now, columns) places.old.items places.new.items) }
+{
+    places.push(place_for(alloc, key, columns)?)?;
+    Ok(())
+}
+
+/// Appends a pair whose key meets the one that the last place holds: a layer below gets both. Err: out of memory.
+#[cycle(push)]
+fn push_below(
+    alloc: Global,
+    places: &mut Vec<Place<Layer>>,
+    key: &[u8],
+    columns: PackedColumns,
+) -> Result<(), Memory>
+    requires can { CanFollow (key.now, columns) places.old.items }
+    requires met { LastMeets key.now places.old.items }
+    ensures { OnOk result (HaveFollowed (key.now, columns) places.old.items places.new.items) }
 {
     let slice = slice_of(key);
-    let at = places.len() - 1;
-    if !places[at].meets_key(slice, key.len()) {
-        places.push(place_for(alloc, key, columns)?)?;
-        return Ok(());
-    }
-    if let Content::Link(lower) = &mut places[at].content {
-        return lower.push(alloc, &key[8..], columns);
-    }
     let Some(last) = places.pop() else {
         unreachable!()
     };
@@ -156,6 +153,30 @@ fn follow(
         content: Content::Link(lower),
     })?;
     Ok(())
+}
+
+/// Appends a pair to the places of a border. If the last place is also the pair's, the pair goes below it. Otherwise
+/// it gets a place of its own. The rare ways have functions of their own, since each layer that a push goes through pays
+/// for the locals of this one. Err: out of memory.
+#[cycle(push)]
+fn follow(
+    alloc: Global,
+    places: &mut Vec<Place<Layer>>,
+    key: &[u8],
+    columns: PackedColumns,
+) -> Result<(), Memory>
+    requires { CanFollow (key.now, columns) places.old.items }
+    ensures { OnOk result (HaveFollowed (key.now, columns) places.old.items places.new.items) }
+{
+    let slice = slice_of(key);
+    let at = places.len() - 1;
+    if !places[at].meets_key(slice, key.len()) {
+        return push_own(alloc, places, key, columns);
+    }
+    if let Content::Link(lower) = &mut places[at].content {
+        return lower.push(alloc, &key[8..], columns);
+    }
+    push_below(alloc, places, key, columns)
 }
 
 /// Returns the number of places whose slice is below this one.
@@ -248,9 +269,7 @@ fn push_last(
     requires lawful { IsStored borders.old.items }
     requires some { 1 ≤ length borders.old.items }
     requires below { AllKeysBelow (borders_walk (border_views borders.old.items)) ((key.now, columns) ∷ []) }
-    ensures lawful { OnOk result (IsStored borders.new.items) }
-    ensures pairs { OnOk result (borders_walk (border_views borders.new.items)
-        ≡ borders_walk (border_views borders.old.items) ++ (key.now, columns) ∷ []) }
+    ensures { OnOk result (HavePushed (key.now, columns) borders.old.items borders.new.items) }
 {
     let at = borders.len() - 1;
     let Border::Open(places) = &mut borders[at] else {

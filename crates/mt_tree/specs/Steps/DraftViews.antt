@@ -1,16 +1,18 @@
 -- What contracts see of a stored layer.
-use Rattle.std.specs.Prelude.{◌≡◌, ◌≤◌, ⊤, List, [], ◌∷◌, ◌++◌, length, map}
+use Rattle.std.specs.Prelude.{◌≡◌, ◌≤◌, ◌<◌, ◌+◌, ⊤, ℕ, List, [], ◌∷◌, ◌++◌, length, map}
 use Rattle.std.specs.List.{AllByRecursion, flat_map}
-use Rattle.mt_words.specs.Walks.{joined}
-use Rattle.mt_tree.specs.Layer.{PlaceView}
-use Rattle.mt_tree.specs.Borders.{DraftView, layer_walk, AreBorders}
-use Rattle.mt_tree.specs.Steps.Ranks.{AreRanked}
+use Rattle.mt_words.specs.Slices.{slice_in}
+use Rattle.mt_words.specs.Walks.{Pair, joined}
+use Rattle.mt_tree.specs.Layer.{PlaceView, length_at, walk, AllKeysBelow}
+use Rattle.mt_tree.specs.Borders.{DraftView, borders_walk, layer_walk, AreBorders}
+use Rattle.mt_tree.specs.Steps.Ranks.{IsRanked, AreRanked}
+use Rattle.mt_tree.specs.Steps.Seams.{first_slice_of}
 use Rattle.mt_tree.specs.Nodes.{each_borders, AreBelow, IsTreeCount}
 use Rattle.mt_tree.specs.Steps.Levels.{node_walk}
 use Rattle.mt_tree.specs.declared.layer.Border.{Border}
 use Rattle.mt_tree.specs.declared.layer.Border.TheVariants.{Open, Closed}
 use Rattle.mt_tree.specs.declared.place.Content.TheVariants.{Short, Suffix, Link}
-use Rattle.mt_tree.specs.Steps.Places.{views, below_links}
+use Rattle.mt_tree.specs.Steps.Places.{view_of, views, below_links}
 use Rattle.mt_tree.specs.Steps.NodeViews.{trees_under}
 use Rattle.mt_tree.specs.declared.place.Place.{Place}
 use Rattle.mt_tree.specs.declared.place.Content.{Content}
@@ -90,3 +92,33 @@ pub record PutOpen (places : List (Place DraftView)) (old new : List Border) : T
   pub put : PutBehind places old new
   pub last : 1 ≤ length places → IsLastOpen new
   pub kept : IsLastOpen old → IsLastOpen new
+
+-- lawful places, at least one, whose keys are all below that of the pair
+pub record CanFollow (pair : Pair) (places : List (Place DraftView)) : Type 0 where
+  pub lawful : IsRanked (views layer_walk places)
+  pub some : 1 ≤ length places
+  pub links : HaveLawfulLinks places
+  pub below : AllKeysBelow (walk (views layer_walk places)) (pair ∷ [])
+
+-- the last place has the first slice of this key, and both are longer than 8 bytes
+pub record LastMeets (key : List ℕ) (places : List (Place DraftView)) : Type 0 where
+  pub front : List (Place DraftView)
+  pub last : Place DraftView
+  pub is : places ≡ front ++ last ∷ []
+  pub slice : last.slice ≡ slice_in key
+  pub long : length_at (view_of layer_walk last) ≡ 9
+  pub longer : 8 < length key
+
+-- the new places are lawful and have the pairs of the old ones and then this pair; they begin with the same slice, and are at most one more
+pub record HaveFollowed (pair : Pair) (old new : List (Place DraftView)) : Type 0 where
+  pub pairs : walk (views layer_walk new) ≡ walk (views layer_walk old) ++ pair ∷ []
+  pub lawful : IsRanked (views layer_walk new)
+  pub links : HaveLawfulLinks new
+  pub first : first_slice_of (views layer_walk new) ≡ first_slice_of (views layer_walk old)
+  pub some : 1 ≤ length new
+  pub more : length new ≤ length old + 1
+
+-- the new borders are lawful, and have the pairs of the old ones and then this pair
+pub record HavePushed (pair : Pair) (old new : List Border) : Type 0 where
+  pub lawful : IsStored new
+  pub pairs : borders_walk (border_views new) ≡ borders_walk (border_views old) ++ pair ∷ []
