@@ -50,6 +50,31 @@ enum mtr_status {
     MTR_FAILED = 8  /* a write or a sync failed; nothing changed */
 };
 
+/* The kind of a fault. */
+enum mtr_fault_kind {
+    MTR_NO_LOGS = 1,
+    MTR_HEADER = 2,
+    MTR_RECORD = 3,
+    MTR_LOG_DEVICE = 4,
+    MTR_PART_DEVICE = 5,
+    MTR_GAP = 6,
+    MTR_DOUBLED = 9,
+    MTR_TORN = 10
+};
+
+/* What is wrong with a record. */
+enum mtr_fault_what {
+    MTR_LENGTH = 1,
+    MTR_TRAILER = 2,
+    MTR_KIND = 3,
+    MTR_FRAME = 4,
+    MTR_VERSION = 5,
+    MTR_KEY = 6,
+    MTR_COLUMNS = 7,
+    MTR_CLOCK = 8,
+    MTR_CHECKSUM = 9
+};
+
 /* A place for a value of the library. {0} is empty. */
 typedef struct mtr_place {
     void *at;
@@ -58,8 +83,8 @@ typedef struct mtr_place {
 
 /* Why there is no store. */
 typedef struct mtr_fault {
-    uint32_t kind;   /* 1 no logs, 2 header, 3 record, 4 the log's device, 5 the part's device, 6 gap, 9 doubled, 10 torn */
-    uint32_t what;   /* of a record: 1 length, 2 trailer, 3 kind, 4 frame, 5 version, 6 key, 7 columns, 8 clock, 9 checksum; else 0 */
+    uint32_t kind;   /* an mtr_fault_kind */
+    uint32_t what;   /* of a record: an mtr_fault_what; else 0 */
     uint64_t index;  /* the number of the log or part, or 0 */
     uint64_t record; /* of a record: how many complete records precede it; else 0 */
 } mtr_fault;
@@ -83,8 +108,8 @@ uint32_t mtr_feed_failed(mtr_place *feed);
 uint32_t mtr_add(mtr_place *inputs, mtr_place *feed);
 
 /* Recovers from these logs and parts. DONE: the place holds the store that the rules define for exactly these bytes, with
- * its report. FAULT: *fault is their one fault. Not DONE and not WRONG: the place is empty. WRONG: it holds something
- * else, as a store. */
+ * its report. FAULT: *fault is their one fault; an empty place has no logs. Not DONE and not WRONG: the place is empty.
+ * WRONG: it holds something else, as a store. */
 uint32_t mtr_recover(mtr_place *inputs, mtr_fault *fault);
 
 /* Recovery by threads of the server, which no call starts. A job hands out tasks, any thread does a task, and the job
@@ -92,8 +117,8 @@ uint32_t mtr_recover(mtr_place *inputs, mtr_fault *fault);
  * changes the store.
  *
  * Begins recovery from these logs and parts for this number of threads, 1 to 64: a step has about so many tasks, or fewer.
- * DONE: the place holds the job. FAULT: *fault is their one fault. Not DONE and not WRONG: the place is empty. WRONG: it
- * holds something else, or the number is not lawful. */
+ * DONE: the place holds the job. FAULT: as for mtr_recover. Not DONE and not WRONG: the place is empty. WRONG: it holds
+ * something else, as a store, or the number is not lawful. */
 uint32_t mtr_prepare(mtr_place *inputs, uint32_t threads, mtr_fault *fault);
 
 /* Hands out the next task, into the empty place `worker`. ABSENT: all are handed out. WRONG: `job` holds no job, or
@@ -204,8 +229,20 @@ uint32_t mtr_pair(mtr_place *store, const uint8_t *key, size_t key_length, uint8
 uint32_t mtr_dump(mtr_place *store, const uint8_t *start, size_t start_length, uint8_t *out, size_t room, size_t *count,
                   size_t *pairs);
 
-/* Puts the same store into the empty place `other`, for another thread. Nothing is copied, and the store is freed with
- * the last of its places. WRONG: `store` holds no store, or `other` is not empty. Not DONE: `other` is as before. */
+/* mtr_dump of the pairs whose keys are at or after `start` and below `end`. An `end` of no bytes is none. ABSENT: there is no
+ * such pair. */
+uint32_t mtr_dump_until(mtr_place *store, const uint8_t *start, size_t start_length, const uint8_t *end,
+                        size_t end_length, uint8_t *out, size_t room, size_t *count, size_t *pairs);
+
+/* The key, of at most 4,097 bytes, at which range i of n ranges of the store begins, so that n threads read one range each:
+ * from mtr_cut_key of i to that of i + 1, or without an end if it is ABSENT. Range 0 begins at no bytes, and no other does.
+ * The ranges have all pairs, each once: the first ones have one pair more than the others, or as many. A key need not be in
+ * the store. It walks to the key. ABSENT: i is n or more. WRONG: as for mtr_exists. Never MEMORY. */
+uint32_t mtr_cut_key(mtr_place *store, size_t i, size_t n, uint8_t *out, size_t room, size_t *count);
+
+/* Puts the same store into the empty place `other`, so that another thread reads it at the same time: each thread gives its
+ * own place to its calls. Nothing is copied, and the store is freed with the last of its places. WRONG: `store` holds no
+ * store, or `other` is not empty. Not DONE: `other` is as before. */
 uint32_t mtr_share(mtr_place *store, mtr_place *other);
 
 /* Frees what the place holds, if it holds anything, and leaves it empty. */
@@ -213,6 +250,9 @@ void mtr_free(mtr_place *place);
 
 /* The words for a fault, as mtrecover prints them; no zero byte ends them. WRONG: mtr_recover tells no such fault. */
 uint32_t mtr_fault_text(const mtr_fault *fault, uint8_t *out, size_t room, size_t *count);
+
+/* The words for a status; no zero byte ends them. WRONG: there is no such status. Never MEMORY. */
+uint32_t mtr_status_text(uint32_t status, uint8_t *out, size_t room, size_t *count);
 
 /* What a library is. */
 typedef struct mtr_versions {
@@ -392,6 +432,31 @@ uint32_t mtr_part_header_4(uint64_t salt, uint32_t number, uint64_t begin, uint1
  * MEMORY. */
 uint32_t mtr_seal(uint32_t mark, const uint8_t *body, size_t length, uint8_t *out, size_t room, size_t *count);
 
+/* The header of a log or of a part, of any format. */
+typedef struct mtr_log_front {
+    uint32_t format;
+    uint32_t worker;  /* of formats 3 and 4, else 0 */
+    uint32_t segment; /* of formats 3 and 4, else 0 */
+    uint32_t workers; /* of format 4, else 0 */
+    uint64_t from;
+    uint64_t salt;    /* of format 4, else 0 */
+    size_t length;    /* the bytes of the header */
+} mtr_log_front;
+
+typedef struct mtr_part_front {
+    uint32_t format;
+    uint32_t number;
+    uint32_t part;
+    uint32_t parts;
+    uint64_t begin;
+    uint64_t salt;    /* of format 4, else 0 */
+    size_t length;    /* the bytes of the header */
+} mtr_part_front;
+
+/* Reads the header with which the bytes begin. FAULT: they begin with none, and *front is as before. Never MEMORY or WRONG. */
+uint32_t mtr_read_log_header(const uint8_t *bytes, size_t length, mtr_log_front *front);
+uint32_t mtr_read_part_header(const uint8_t *bytes, size_t length, mtr_part_front *front);
+
 /* The header of a log of format 1 or 2. Updates below the timestamp `from` may be missing from the log. WRONG: another
  * format. */
 uint32_t mtr_log_header(uint32_t format, uint64_t from, uint8_t *out, size_t room, size_t *count);
@@ -399,19 +464,19 @@ uint32_t mtr_log_header(uint32_t format, uint64_t from, uint8_t *out, size_t roo
 /* The header of a segment of a worker's log, which is of format 3. Never WRONG. */
 uint32_t mtr_segment_header(uint64_t from, uint32_t worker, uint32_t segment, uint8_t *out, size_t room, size_t *count);
 
-/* A mark. Never WRONG. */
+/* A mark. Never WRONG or MEMORY. */
 uint32_t mtr_mark(uint64_t time, uint8_t *out, size_t room, size_t *count);
 
 /* A put of these columns of the key. WRONG: no format of logs, version 0, no column, numbers that do not rise, or what the
- * format does not have. */
+ * format does not have. Never MEMORY. */
 uint32_t mtr_put(uint32_t format, uint64_t time, uint64_t version, const uint8_t *key, size_t key_length,
                  const mtr_column *columns, size_t column_count, uint8_t *out, size_t room, size_t *count);
 
-/* A remove of the key. WRONG: as for mtr_put. */
+/* A remove of the key. WRONG: as for mtr_put. Never MEMORY. */
 uint32_t mtr_remove(uint32_t format, uint64_t time, uint64_t version, const uint8_t *key, size_t key_length,
                     uint8_t *out, size_t room, size_t *count);
 
-/* An erase of the columns of the key that have these numbers. WRONG: as for mtr_put. */
+/* An erase of the columns of the key that have these numbers. WRONG: as for mtr_put. Never MEMORY. */
 uint32_t mtr_erase(uint32_t format, uint64_t time, uint64_t version, const uint8_t *key, size_t key_length,
                    const uint8_t *numbers, size_t number_count, uint8_t *out, size_t room, size_t *count);
 
@@ -420,7 +485,7 @@ uint32_t mtr_erase(uint32_t format, uint64_t time, uint64_t version, const uint8
 uint32_t mtr_part_header(uint32_t format, uint32_t number, uint64_t begin, uint16_t part, uint16_t parts, uint8_t *out,
                          size_t room, size_t *count);
 
-/* The entry of a key with these columns. WRONG: as for mtr_put, by the formats of parts. */
+/* The entry of a key with these columns. WRONG: as for mtr_put, by the formats of parts. Never MEMORY. */
 uint32_t mtr_entry(uint32_t format, uint64_t version, const uint8_t *key, size_t key_length, const mtr_column *columns,
                    size_t column_count, uint8_t *out, size_t room, size_t *count);
 

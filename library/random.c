@@ -467,10 +467,13 @@ static void get(size_t p) {
     expect("its length", wanted == MTR_DONE || wanted == MTR_SHORT ? count == 1 : count == 99);
 }
 
-static size_t skipped(const struct store *store, const char *start) {
+/* How many of the store's keys are below these bytes. */
+static size_t skipped(const struct store *store, const void *start, size_t start_length) {
     size_t n = 0;
     for (size_t i = 0; i < KEYS; i++) {
-        n += has_key(store, i) && strcmp(keys[i], start) < 0;
+        size_t length = strlen(keys[i]);
+        int order = memcmp(keys[i], start, length < start_length ? length : start_length);
+        n += has_key(store, i) && (order < 0 || (order == 0 && length < start_length));
     }
     return n;
 }
@@ -483,7 +486,7 @@ static void range(size_t p, size_t q) {
     if (is_done(mtr_range(&places[p], text(start), strlen(start), most, &places[q]), is_right ? MTR_DONE : MTR_WRONG, true)) {
         hits->kind = HITS;
         hits->store = models[p].store;
-        hits->skip = skipped(&hits->store, start);
+        hits->skip = skipped(&hits->store, start, strlen(start));
         hits->hits = hits->store.keys - hits->skip < most ? hits->store.keys - hits->skip : most;
     }
 }
@@ -508,18 +511,22 @@ static void hit(size_t p) {
             false);
 }
 
-/* All pairs from a key on are told, with pauses where a buffer is full. */
+/* Pairs from a key on are told, now and then up to another, as many as a buffer has room for. */
 static void dump(size_t p) {
     const struct model *model = &models[p];
-    size_t count = 0, pairs = 0, first = below(KEYS);
+    const char *start = keys[below(KEYS)], *end = below(2) == 0 ? keys[below(KEYS)] : "";
+    size_t count = 0, pairs = 0, start_length = strlen(start), end_length = strlen(end), room = 64 + below(336);
     uint8_t out[400];
-    uint32_t got = mtr_dump(&places[p], text(keys[first]), strlen(keys[first]), out, 64 + below(336), &count, &pairs);
+    uint32_t got = end_length == 0 ? mtr_dump(&places[p], text(start), start_length, out, room, &count, &pairs)
+                                   : mtr_dump_until(&places[p], text(start), start_length, text(end), end_length, out, room,
+                                                    &count, &pairs);
     if (model->kind != STORE) {
         is_done(got, MTR_WRONG, false);
         return;
     }
-    size_t skip = skipped(&model->store, keys[first]);
-    if (is_done(got, skip < model->store.keys ? MTR_DONE : MTR_ABSENT, false)) {
+    size_t skip = skipped(&model->store, start, start_length);
+    size_t stop = end_length == 0 ? model->store.keys : skipped(&model->store, end, end_length);
+    if (is_done(got, skip < stop ? MTR_DONE : MTR_ABSENT, false)) {
         size_t at = 0;
         for (size_t n = 0; n < pairs; n++) {
             const char *key = keys[key_at(&model->store, skip + n)];
@@ -529,7 +536,20 @@ static void dump(size_t p) {
             expect("a pair of the dump", at + length <= count && memcmp(out + at, pair, length) == 0);
             at += length;
         }
-        expect("no more bytes", at == count && pairs <= model->store.keys - skip);
+        expect("no more bytes", at == count && pairs <= stop - skip);
+    }
+}
+
+/* Where a range of some begins. */
+static void cut(size_t p) {
+    const struct model *model = &models[p];
+    size_t i = below(6), n = below(6), count = 99;
+    uint8_t out[32];
+    uint32_t wanted = model->kind != STORE ? MTR_WRONG : i < n ? MTR_DONE : MTR_ABSENT;
+    if (is_done(mtr_cut_key(&places[p], i, n, out, sizeof out, &count), wanted, false)) {
+        size_t all = model->store.keys, more = all % n;
+        expect("the first begins at no bytes", (i == 0) == (count == 0));
+        expect("the pairs before it", skipped(&model->store, out, count) == i * (all / n) + (i < more ? i : more));
     }
 }
 
@@ -671,7 +691,7 @@ static void call_any(void) {
         case 15: case 16: p = place(JOB, PLACES); CALL(join, p, place(TASK, p));
         case 17: p = place(JOB, PLACES); CALL(go_on, p, models[p].is_replaying);
         case 18: CALL(report, place(STORE, PLACES));
-        case 19: CALL(get, place(STORE, PLACES));
+        case 19: if (below(2) == 0) { CALL(cut, place(STORE, PLACES)); } CALL(get, place(STORE, PLACES));
         case 20: p = place(STORE, PLACES); CALL(range, p, place(EMPTY, p));
         case 21: CALL(hit, place(HITS, PLACES));
         case 22: if (below(3) == 0) { p = place(STORE, PLACES); CALL(share, p, place(EMPTY, p)); } CALL(dump, place(STORE, PLACES));

@@ -181,20 +181,18 @@ static void test_formats(void) {
     }
 }
 
+/* Records and entries are encoded without memory. */
 static void test_memory(void) {
     uint8_t out[64];
     mtr_column columns[] = {{1, {text("o"), 1}}, {2, {text("p"), 1}}};
-    uint32_t status = MTR_MEMORY;
-    size_t count = 0, allowed;
-    for (allowed = 0; status == MTR_MEMORY && allowed < 64; allowed++) {
-        memset(out, 9, sizeof out);
-        left = allowed;
-        status = mtr_put(1, 1, 1, text("k"), 1, columns, 2, out, sizeof out, &count);
-        left = SIZE_MAX;
-        expect("a failed allocation writes nothing", status == MTR_DONE || (status == MTR_MEMORY && out[0] == 9));
-    }
-    expect("some allocations failed", allowed > 1);
-    expect("then the put is done", status == MTR_DONE && count == 37);
+    uint8_t numbers[] = {1, 2};
+    size_t count = 0;
+    left = 0;
+    expect("a put", mtr_put(1, 1, 1, text("k"), 1, columns, 2, out, sizeof out, &count) == MTR_DONE && count == 37);
+    expect("a remove", mtr_remove(1, 1, 1, text("k"), 1, out, sizeof out, &count) == MTR_DONE && count == 28);
+    expect("an erase", mtr_erase(2, 1, 1, text("k"), 1, numbers, 2, out, sizeof out, &count) == MTR_DONE && count == 31);
+    expect("an entry", mtr_entry(1, 1, text("k"), 1, columns, 2, out, sizeof out, &count) == MTR_DONE && count == 28);
+    left = SIZE_MAX;
 }
 
 /* The files of the store of the examples: its logs, and then its parts. */
@@ -524,6 +522,89 @@ static void test_dump_on(void) {
     expect("all of them", status == MTR_ABSENT && at == ends[PAIRS - 1]);
     mtr_free(&store);
     expect("it is freed", blocks == 0);
+}
+
+/* The pairs from g on and below an end. No bytes are no end. */
+static void test_dump_until(void) {
+    mtr_place store = example_store(), empty = {0};
+    uint8_t out[WHOLE];
+    size_t count = 0, pairs = 0;
+    flatten(&store);
+    left = 0;
+    expect("below m", mtr_dump_until(&store, text("g"), 1, text("m"), 1, out, WHOLE, &count, &pairs) == MTR_DONE && pairs >= 1 &&
+                          memcmp(out, whole + ends[0], count) == 0 && out[13] < 'm');
+    expect("no end", mtr_dump_until(&store, text("g"), 1, NULL, 0, out, WHOLE, &count, &pairs) == MTR_DONE && pairs == 3);
+    expect("the end is left out", mtr_dump_until(&store, text("fig"), 3, text("fig"), 3, out, WHOLE, &count, &pairs) == MTR_ABSENT);
+    expect("no store", mtr_dump_until(&empty, NULL, 0, NULL, 0, out, WHOLE, &count, &pairs) == MTR_WRONG);
+    left = SIZE_MAX;
+    mtr_free(&store);
+}
+
+/* The ranges between cut keys, one after the other, are the whole store. */
+static void test_cut_keys(void) {
+    mtr_place store = example_store(), empty = {0};
+    uint8_t out[WHOLE], start[16], end[16];
+    size_t n, i, count = 0, pairs = 0;
+    flatten(&store);
+    left = 0;
+    for (n = 1; n <= PAIRS + 2; n++) {
+        size_t at = 0, from = 0, to = 0;
+        for (i = 0; i < n; i++) {
+            uint32_t status;
+            expect("it begins", mtr_cut_key(&store, i, n, start, sizeof start, &from) == MTR_DONE && (from == 0) == (i == 0));
+            to = 0;
+            expect("it ends", mtr_cut_key(&store, i + 1, n, end, sizeof end, &to) == (i + 1 < n ? MTR_DONE : MTR_ABSENT));
+            status = mtr_dump_until(&store, start, from, end, to, out, WHOLE, &count, &pairs);
+            if (status == MTR_ABSENT) continue;
+            expect("the next pairs", status == MTR_DONE && memcmp(out, whole + at, count) == 0);
+            expect("as many as others", pairs == PAIRS / n + (i < PAIRS % n));
+            at += count;
+        }
+        expect("all of them", at == ends[PAIRS - 1]);
+    }
+    expect("short", mtr_cut_key(&store, 1, 2, out, 1, &count) == MTR_SHORT && count > 1);
+    expect("no range", mtr_cut_key(&store, 0, 0, out, WHOLE, &count) == MTR_ABSENT);
+    expect("no store", mtr_cut_key(&empty, 0, 1, out, WHOLE, &count) == MTR_WRONG);
+    left = SIZE_MAX;
+    mtr_free(&store);
+}
+
+static void test_status_text(void) {
+    uint8_t out[100];
+    size_t count = 0;
+    uint32_t status;
+    left = 0;
+    for (status = MTR_DONE; status <= MTR_FAILED; status++)
+        expect("words", mtr_status_text(status, out, sizeof out, &count) == MTR_DONE && count >= 4);
+    expect("done", mtr_status_text(MTR_DONE, out, sizeof out, &count) == MTR_DONE && count == 4 && memcmp(out, "done", 4) == 0);
+    expect("short", mtr_status_text(MTR_DONE, out, 3, &count) == MTR_SHORT && count == 4);
+    expect("no status", mtr_status_text(9, out, sizeof out, &count) == MTR_WRONG);
+    left = SIZE_MAX;
+}
+
+/* Headers are read as they were written. */
+static void test_read_headers(void) {
+    mtr_log_front log = {0};
+    mtr_part_front part = {0};
+    uint8_t out[64];
+    size_t count = 0;
+    uint32_t mark = 0;
+    mtr_log_header(1, 7, out, sizeof out, &count);
+    expect("format 1", mtr_read_log_header(out, count, &log) == MTR_DONE && log.format == 1 && log.from == 7 && log.length == 12);
+    mtr_segment_header(8, 2, 3, out, sizeof out, &count);
+    expect("format 3", mtr_read_log_header(out, count, &log) == MTR_DONE && log.format == 3 && log.worker == 2 && log.segment == 3 &&
+                           log.from == 8 && log.length == 20);
+    expect("no part", mtr_read_part_header(out, count, &part) == MTR_FAULT && part.format == 0);
+    mtr_log_header_4(5, 2, 3, 4, 9, out, sizeof out, &count, &mark);
+    expect("format 4", mtr_read_log_header(out, count, &log) == MTR_DONE && log.format == 4 && log.salt == 5 && log.worker == 2 &&
+                           log.segment == 3 && log.workers == 4 && log.from == 9 && log.length == 44);
+    expect("cut", mtr_read_log_header(out, count - 1, &log) == MTR_FAULT && log.from == 9);
+    mtr_part_header(2, 6, 9, 1, 2, out, sizeof out, &count);
+    expect("a part", mtr_read_part_header(out, count, &part) == MTR_DONE && part.format == 2 && part.number == 6 && part.begin == 9 &&
+                         part.part == 1 && part.parts == 2 && part.length == 20);
+    mtr_part_header_4(5, 6, 9, 1, 2, out, sizeof out, &count, &mark);
+    expect("of format 4", mtr_read_part_header(out, count, &part) == MTR_DONE && part.format == 4 && part.salt == 5 && part.number == 6 &&
+                              part.length == 36);
 }
 
 static void test_share(void) {
@@ -938,6 +1019,10 @@ int main(int argc, char **argv) {
     test_pair();
     test_dump();
     test_dump_on();
+    test_dump_until();
+    test_cut_keys();
+    test_status_text();
+    test_read_headers();
     test_share();
     test_resume();
     test_resume_blocks();

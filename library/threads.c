@@ -89,13 +89,40 @@ static bool walks(mtr_place *store) {
 struct reader {
     pthread_t thread;
     mtr_place store;
-    unsigned passed, failed;
+    unsigned number, passed, failed;
 };
 
-/* Reads all keys, and shares and frees the store while others read. */
+/* Where range i of the readers' ranges begins: at a key that is shorter than these. No bytes: there are not so many. */
+enum { CUT = KEY + 1 };
+
+static size_t cut(mtr_place *store, unsigned i, uint8_t *key) {
+    size_t count = 0;
+    return mtr_cut_key(store, i, THREADS, key, CUT, &count) == MTR_DONE ? count : 0;
+}
+
+/* Whether the keys of range i are its part of all keys, in order. The flat form of a pair is its length, in 4 bytes, which stands
+ * after it too, a version in 8, the length of the key in 2, and the key. */
+static bool has_range(mtr_place *store, unsigned i) {
+    uint8_t start[CUT], end[CUT], out[1 << 12], wanted[KEY];
+    size_t start_length = cut(store, i, start), end_length = cut(store, i + 1, end), count, pairs;
+    unsigned found = KEYS / THREADS * i;
+    bool is_so = true;
+    while (is_so && mtr_dump_until(store, start, start_length, end, end_length, out, sizeof out, &count, &pairs) == MTR_DONE) {
+        for (size_t at = 0; is_so && at < count; at += 8u + out[at + 3]) {
+            start_length = key_of(++found, wanted);
+            is_so = out[at + 13] == start_length && memcmp(out + at + 14, wanted, start_length) == 0;
+        }
+        memcpy(start, wanted, start_length);
+        start[start_length++] = 0;
+    }
+    return is_so && found == KEYS / THREADS * (i + 1);
+}
+
+/* Reads a range, then all keys, and shares and frees the store while others read. */
 static void *read_all(void *given) {
     struct reader *me = given;
     mtr_place other = {0};
+    has_range(&me->store, me->number) ? me->passed++ : me->failed++;
     for (unsigned n = 1; n <= KEYS; n++)
         has(&me->store, n) ? me->passed++ : me->failed++;
     bool is_so = mtr_share(&me->store, &other) == MTR_DONE;
@@ -229,8 +256,10 @@ int main(void) {
         mtr_free(&store);
         recover_on(&store, threads) && walks(&store) ? passed++ : failed++;
     }
-    for (int n = 0; n < THREADS; n++)
+    for (unsigned n = 0; n < THREADS; n++) {
+        readers[n].number = n;
         mtr_share(&store, &readers[n].store) == MTR_DONE ? passed++ : failed++;
+    }
     for (int n = 0; n < THREADS; n++)
         pthread_create(&readers[n].thread, NULL, read_all, &readers[n]) == 0 ? passed++ : failed++;
     for (int n = 0; n < THREADS; n++) {

@@ -21,8 +21,8 @@ from mtrecover._library import ABSENT, DONE, NUMBERS, Place, RawReport, done, li
 Columns = Dict[int, bytes]
 """The columns of a key: a value by its number, 0 to 63."""
 
-# How many bytes of pairs are copied out of the tree at a time.
-ROOM = 1 << 16
+# How many bytes of pairs are copied out of the tree at a time, and how many the longest key has that cuts a store.
+ROOM, LONGEST_CUT = 1 << 16, 4097
 # The length and version that a pair begins with, and the length of its key; those of a column.
 _HEAD, _COLUMN, _TRAILER = Struct(">4x8xH"), Struct(">BH"), 4
 NONE = 2**64 - 1
@@ -95,11 +95,17 @@ class Tree:
         flat = written(lambda *out: self.call(lib.mtr_pair, key, len(key), *out), 1 << 12)
         return None if flat is None else next(pairs_in(flat))[1]
 
-    def pairs(self, start: bytes) -> Iterator[tuple[bytes, Columns]]:
-        """Yields the pairs whose keys are at or after `start`, in order."""
-        pairs = byref(c_size_t())
+    def cut(self, i: int, n: int) -> bytes:
+        """Returns the key at which range i of n ranges of all pairs begins."""
+        return written(lambda *out: self.call(lib.mtr_cut_key, i, n, *out), LONGEST_CUT) or b""
+
+    def pairs(self, start: bytes, stop: Optional[bytes]) -> Iterator[tuple[bytes, Columns]]:
+        """Yields the pairs whose keys are at or after `start` and below `stop`, in order."""
+        if stop == b"":  # which would be no end
+            return
+        pairs, end = byref(c_size_t()), stop or b""
         while True:
-            flat = written(lambda *out: self.call(lib.mtr_dump, start, len(start), *out, pairs), ROOM)
+            flat = written(lambda *out: self.call(lib.mtr_dump_until, start, len(start), end, len(end), *out, pairs), ROOM)
             if flat is None:
                 return
             for key, columns in pairs_in(flat):
@@ -211,10 +217,7 @@ class Range(Mapping[bytes, Columns]):
         return self._start <= key and (self._stop is None or key < self._stop)
 
     def _pairs(self) -> Iterator[tuple[bytes, Columns]]:
-        for key, columns in self._tree.pairs(self._start):
-            if not self._has(key):
-                return
-            yield key, columns
+        return self._tree.pairs(self._start, self._stop)
 
 
 class Store(Range):
@@ -237,6 +240,13 @@ class Store(Range):
 
     def __repr__(self) -> str:
         return f"<mtrecover.Store of {len(self)} keys>"
+
+    def ranges(self, n: int) -> list[Range]:
+        """Returns n ranges that have all keys, one after the other: each equally many, or one more."""
+        if n < 1:
+            raise ValueError("ranges are 1 or more")
+        cuts = [self._tree.cut(i, n) for i in range(n)]
+        return [Range(self._tree, start, stop) for start, stop in zip(cuts, [*cuts[1:], None])]
 
     def close(self) -> None:
         """Frees the store. From then on it answers ValueError, and so do its ranges."""

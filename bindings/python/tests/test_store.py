@@ -63,8 +63,18 @@ class Stores(Folders):
         self.assertEqual(list(store[:b"g"]), [b"fig"])
         self.assertEqual(list(store[:]), list(store))
         self.assertEqual(list(store[b"z":b"a"]), [])
+        self.assertEqual(list(store[:b""]), [])
         with self.assertRaises(ValueError):
             store[::2]
+
+    def test_ranges_have_all_keys_evenly(self) -> None:
+        store = self.store()
+        for n, lengths in [(1, [4]), (3, [2, 1, 1]), (6, [1, 1, 1, 1, 0, 0])]:
+            ranges = store.ranges(n)
+            self.assertEqual([len(keys) for keys in ranges], lengths)
+            self.assertEqual([pair for keys in ranges for pair in keys.items()], list(store.items()))
+        with self.assertRaises(ValueError):
+            store.ranges(0)
 
     def test_a_range_is_a_mapping(self) -> None:
         middle = self.store()[b"g":b"m"]

@@ -105,6 +105,32 @@ pub struct RawLent {
     pub length: usize,
 }
 
+/// The header of a log.
+#[repr(C)]
+#[allow(dead_code)]
+pub struct RawLogFront {
+    pub format: u32,
+    pub worker: u32,
+    pub segment: u32,
+    pub workers: u32,
+    pub from: u64,
+    pub salt: u64,
+    pub length: usize,
+}
+
+/// The header of a part.
+#[repr(C)]
+#[allow(dead_code)]
+pub struct RawPartFront {
+    pub format: u32,
+    pub number: u32,
+    pub part: u32,
+    pub parts: u32,
+    pub begin: u64,
+    pub salt: u64,
+    pub length: usize,
+}
+
 /// A column to be written: its number and its value.
 #[repr(C)]
 #[derive(Clone, Copy, Debug)]
@@ -197,10 +223,25 @@ extern "C" {
         count: *mut usize,
         pairs: *mut usize,
     ) -> u32;
+    pub fn mtr_dump_until(
+        store: *mut RawPlace,
+        start: *const u8,
+        start_length: usize,
+        end: *const u8,
+        end_length: usize,
+        out: *mut u8,
+        room: usize,
+        count: *mut usize,
+        pairs: *mut usize,
+    ) -> u32;
+    pub fn mtr_cut_key(store: *mut RawPlace, i: usize, n: usize, out: *mut u8, room: usize, count: *mut usize) -> u32;
     pub fn mtr_share(store: *mut RawPlace, other: *mut RawPlace) -> u32;
     pub fn mtr_free(place: *mut RawPlace);
     pub fn mtr_fault_text(fault: *const RawFault, out: *mut u8, room: usize, count: *mut usize) -> u32;
+    pub fn mtr_status_text(status: u32, out: *mut u8, room: usize, count: *mut usize) -> u32;
     pub fn mtr_version(versions: *mut RawVersions);
+    pub fn mtr_read_log_header(bytes: *const u8, length: usize, front: *mut RawLogFront) -> u32;
+    pub fn mtr_read_part_header(bytes: *const u8, length: usize, front: *mut RawPartFront) -> u32;
     pub fn mtr_log_header(format: u32, from: u64, out: *mut u8, room: usize, count: *mut usize) -> u32;
     pub fn mtr_segment_header(
         from: u64,

@@ -100,16 +100,56 @@ impl Store {
     /// # Ok::<(), Box<dyn std::error::Error>>(())
     /// ```
     pub fn range<'a>(&self, keys: impl RangeBounds<&'a [u8]>) -> Walk {
-        let mut start = Vec::new();
-        if let Bound::Included(key) | Bound::Excluded(key) = keys.start_bound() {
-            start.extend_from_slice(key);
-        }
-        if let Bound::Excluded(_) = keys.start_bound() {
-            start.push(0);
-        }
-        let end = keys.end_bound().map(|key| key.to_vec());
+        let start = match keys.start_bound() {
+            Bound::Included(key) => key.to_vec(),
+            Bound::Excluded(key) => after(key),
+            Bound::Unbounded => Vec::new(),
+        };
+        let end = match keys.end_bound() {
+            Bound::Included(key) => Some(after(key)),
+            Bound::Excluded(key) => Some(key.to_vec()),
+            Bound::Unbounded => None,
+        };
+        self.walk(start, end)
+    }
+
+    /// Returns `n` ranges that have all pairs, one after the other: each equally many, or one more. Each can go to a thread
+    /// of its own; rayon's `into_par_iter()` takes them.
+    ///
+    /// ```
+    /// # let mut log = Vec::new();
+    /// # mtrecover::records::log_header(&mut log, mtrecover::records::Format::Two, 0)?;
+    /// # mtrecover::records::mark(&mut log, 5)?;
+    /// # let store = mtrecover::recover(&[&log], &[])?;
+    /// let count: usize = std::thread::scope(|scope| {
+    ///     let threads: Vec<_> = store.par_ranges(4).into_iter().map(|walk| scope.spawn(|| walk.count())).collect();
+    ///     threads.into_iter().map(|thread| thread.join().unwrap()).sum()
+    /// });
+    /// # assert_eq!(count, 0);
+    /// # Ok::<(), Box<dyn std::error::Error>>(())
+    /// ```
+    pub fn par_ranges(&self, n: usize) -> Vec<Walk> {
+        let cuts: Vec<_> = (0..n).map(|i| self.cut_key(i, n)).collect();
+        (0..n).map(|i| self.walk(cuts[i].clone(), cuts.get(i + 1).cloned())).collect()
+    }
+
+    /// Returns the key at which range i of n ranges begins.
+    fn cut_key(&self, i: usize, n: usize) -> Vec<u8> {
+        let mut key = Vec::new();
+        // SAFETY: the place holds a store.
+        append(&mut key, |out, room, count| unsafe { c::mtr_cut_key(self.0.raw(), i, n, out, room, count) });
+        key
+    }
+
+    /// Returns the pairs from a key on, below another one if there is one.
+    fn walk(&self, start: Vec<u8>, end: Option<Vec<u8>>) -> Walk {
         Walk { store: self.clone(), start, end, bytes: Vec::new(), at: 0 }
     }
+}
+
+/// Returns the least key above this one.
+fn after(key: &[u8]) -> Vec<u8> {
+    [key, &[0]].concat()
 }
 
 impl IntoIterator for &Store {
@@ -142,9 +182,9 @@ impl IntoIterator for &Store {
 pub struct Walk {
     /// The store's place for this walk, so that a thread can have it.
     store: Store,
-    /// Where the pairs behind those in the buffer start, and where the range ends.
+    /// Where the pairs behind those in the buffer start, and the key below which all are, if there is one.
     start: Vec<u8>,
-    end: Bound<Vec<u8>>,
+    end: Option<Vec<u8>>,
     /// Pairs, and how many bytes of them were returned.
     bytes: Vec<u8>,
     at: usize,
@@ -157,14 +197,6 @@ impl Walk {
             return None;
         }
         let (pair, length) = read(&self.bytes[self.at..]);
-        let is_in = match &self.end {
-            Bound::Included(end) => pair.key <= &end[..],
-            Bound::Excluded(end) => pair.key < &end[..],
-            Bound::Unbounded => true,
-        };
-        if !is_in {
-            return None;
-        }
         self.at += length;
         if self.at == self.bytes.len() {
             self.start.clear();
@@ -176,13 +208,19 @@ impl Walk {
 
     /// Takes the next pairs from the tree. Returns whether there are some.
     fn advance(&mut self) -> bool {
-        let mut pairs = 0;
+        let (mut pairs, start) = (0, &self.start);
         self.at = 0;
         self.bytes.clear();
+        let end = match &self.end {
+            Some(end) if end.is_empty() => return false, // no bytes would be no end
+            Some(end) => &end[..],
+            None => &[],
+        };
         self.bytes.reserve(ROOM);
-        // SAFETY: the start is lent for the call, and the place holds a store.
+        // SAFETY: both keys are lent for the call, and the place holds a store.
         let status = append(&mut self.bytes, |out, room, count| unsafe {
-            c::mtr_dump(self.store.0.raw(), self.start.as_ptr(), self.start.len(), out, room, count, &mut pairs)
+            let store = self.store.0.raw();
+            c::mtr_dump_until(store, start.as_ptr(), start.len(), end.as_ptr(), end.len(), out, room, count, &mut pairs)
         });
         status == c::DONE
     }

@@ -1,4 +1,5 @@
-//! The cases of crates/mt_cases/data, by this crate. docs/TESTING.md explains their lines.
+//! The cases of crates/mt_cases/data, which an installed package has in tests/cases, by this crate. docs/TESTING.md explains
+//! their lines.
 
 use mtrecover::records::{self, Column, Format};
 use mtrecover::{Error, Feed, Inputs, Store};
@@ -6,6 +7,7 @@ use std::collections::HashMap;
 use std::fmt::Write;
 use std::fs;
 use std::iter;
+use std::path::Path;
 
 // ---- Words ----
 
@@ -333,7 +335,9 @@ fn try_file(name: &str) -> usize {
 
 #[test]
 fn cases_are_as_expected() {
-    let folder = concat!(env!("CARGO_MANIFEST_DIR"), "/../../crates/mt_cases/data");
+    let package = Path::new(env!("CARGO_MANIFEST_DIR"));
+    let ways = ["tests/cases", "../../crates/mt_cases/data"].map(|folder| package.join(folder));
+    let folder = ways.iter().find(|way| way.exists()).unwrap();
     let mut names: Vec<_> = fs::read_dir(folder).unwrap().map(|entry| entry.unwrap().path()).collect();
     names.sort();
     let mut count = 0;

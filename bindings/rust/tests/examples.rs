@@ -1,14 +1,18 @@
-//! Each function of the crate, over examples/ of the repository, whose store README.md and docs/WALKTHROUGH.md show.
+//! Each function of the crate, over examples/ of the repository, which an installed package has inside. README.md and
+//! docs/WALKTHROUGH.md show their store.
 
 use mtrecover::records::{self, Column, Format};
 use mtrecover::{Error, Fault, Feed, Inputs, Pair, Store, What, WriteError};
 use std::fs;
 use std::io;
 use std::ops::{Bound, RangeBounds};
+use std::path::Path;
 use std::thread;
 
 fn example(name: &str) -> Vec<u8> {
-    fs::read(format!("{}/../../examples/{name}", env!("CARGO_MANIFEST_DIR"))).unwrap()
+    let package = Path::new(env!("CARGO_MANIFEST_DIR"));
+    let ways = ["examples", "../../examples"].map(|folder| package.join(folder).join(name));
+    fs::read(ways.iter().find(|way| way.exists()).unwrap()).unwrap()
 }
 
 fn fed(mut feed: Feed, bytes: &[u8]) -> Feed {
@@ -156,8 +160,21 @@ fn threads_walk_ranges() {
 }
 
 #[test]
+fn ranges_have_all_pairs_evenly() {
+    let store = store();
+    for (n, counts) in [(1, &[4][..]), (3, &[2, 1, 1]), (4, &[1, 1, 1, 1]), (6, &[1, 1, 1, 1, 0, 0])] {
+        let ranges: Vec<Vec<Pair>> = store.par_ranges(n).into_iter().map(Iterator::collect).collect();
+        assert_eq!(ranges.iter().map(Vec::len).collect::<Vec<_>>(), counts);
+        assert!(ranges.concat().into_iter().eq(&store));
+    }
+    assert!(store.par_ranges(0).is_empty());
+}
+
+#[test]
 fn excluded_bounds_are_left_out() {
     let (store, kiwi) = (store(), &b"kiwi"[..]);
+    assert!(keys(&store, ..&b""[..]).is_empty());
+    assert!(keys(&store, kiwi..kiwi).is_empty());
     assert_eq!(keys(&store, (Bound::Excluded(kiwi), Bound::Unbounded)), ["lime", "pear"]);
     assert_eq!(keys(&store, (Bound::Excluded(kiwi), Bound::Included(&b"lime"[..]))), ["lime"]);
 }

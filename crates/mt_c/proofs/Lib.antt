@@ -1,7 +1,13 @@
+pub mod Cuts
 mod Adds
 pub mod Dumps
+pub mod Givens
 mod JobLemmas
+pub mod Joins
 mod Lasts
+pub mod Marks
 pub mod Pairs
 pub mod Pointers
+pub mod Seeks
 pub mod Stores
+pub mod Told

@@ -1,9 +1,11 @@
 pub mod Added
 pub mod Borrowing
 pub mod Buffers
+pub mod Cuts
 pub mod Filling
 pub mod Flat
 pub mod Formats
+pub mod Fronts
 pub mod Owning
 pub mod Holding
 pub mod Jobs
@@ -13,6 +15,7 @@ pub mod Loans
 pub mod Ranges
 pub mod Reports
 pub mod Resumes
+pub mod Seeking
 pub mod Statuses
 pub mod Steps
 pub mod Told

@@ -2,17 +2,19 @@
 ghost use Rattle.std.specs.Prelude.{◌≡◌, ◌≢◌, ◌∷◌, []};
 ghost use Rattle.mt_tree.specs.Range.{from};
 ghost use Rattle.mt_recover.specs.Report.{Outcome};
+ghost use Rattle.mt_c.specs.Cuts.{between};
 ghost use Rattle.mt_c.specs.Flat.{WritesPair, Dumps};
 ghost use Rattle.mt_c.specs.Holding.{HoldsOutcome, Holds, IsStore};
 ghost use Rattle.mt_c.specs.Statuses.{IsOneOf, IsRefusedUnless};
 ghost use Rattle.mt_c.specs.Values.{IsNoKey};
 ghost use Rattle.mt_c.specs.declared.status.TheConstants.{DONE, WRONG, ABSENT, SHORT};
 
-use crate::filling::fill;
+use crate::filling::{fill, fill_from};
 use crate::flat::write_pair;
 use crate::held::Held;
 use crate::place::Place;
 use crate::status::{ABSENT, WRONG};
+use crate::trees::tree_of;
 
 /// Writes the pair of this key to the beginning of `out`, and its length to `count`. `ABSENT`: the store has no such key.
 /// `WRONG`: the place does not hold a store.
@@ -60,5 +62,30 @@ pub extern "C" fn mtr_dump(
     let Some(Held::Store(recovered)) = store.held() else {
         return WRONG;
     };
-    fill(recovered.store().tree(), start, out, count, pairs)
+    fill_from(tree_of(recovered.store()), start, out, count, pairs)
+}
+
+/// Writes the first pairs of the store whose keys are at or after `start` and below `end`, as `mtr_dump` does. An `end` of
+/// no bytes is none. `ABSENT`: there is no such pair.
+#[unsafe(no_mangle)]
+pub extern "C" fn mtr_dump_until(
+    store: &mut Place,
+    start: &[u8],
+    end: &[u8],
+    out: &mut [u8],
+    count: &mut usize,
+    pairs: &mut usize,
+) -> u32
+    ensures same { store.new.handle.value ≡ store.old.handle.value }
+    ensures dumped { (outcome : Outcome) → HoldsOutcome outcome store.old.handle.value → Dumps (between start.now end.now outcome.store) out.old out.new count.new pairs.new result }
+    ensures kept { result ≢ DONE → out.new ≡ out.old }
+    ensures untold { result ≢ DONE → pairs.new ≡ pairs.old }
+    ensures uncounted { result ≡ WRONG → count.new ≡ count.old }
+    ensures certain { IsOneOf (DONE ∷ WRONG ∷ ABSENT ∷ SHORT ∷ []) result }
+    ensures refused { IsRefusedUnless (Holds IsStore store.old.handle.value) result }
+{
+    let Some(Held::Store(recovered)) = store.held() else {
+        return WRONG;
+    };
+    fill(tree_of(recovered.store()), start, end, out, count, pairs)
 }

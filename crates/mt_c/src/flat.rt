@@ -73,7 +73,7 @@ fn fill_fields(key: &[u8], columns: &PackedColumns, out: &mut [u8])
 }
 
 /// Fills `out` with the length of the bytes, then the bytes.
-fn fill_counted(bytes: &[u8], out: &mut [u8])
+pub fn fill_counted(bytes: &[u8], out: &mut [u8])
     requires short { length bytes.now < 2 ^ 16 }
     requires exact { length out.old ≡ 2 + length bytes.now }
     ensures { out.new ≡ with_length bytes.now }

@@ -10,11 +10,9 @@ ghost use Rattle.mt_c.specs.Statuses.{IsOneOf, IsRefusedUnless};
 
 use crate::buffer::write_bytes;
 use crate::formats::{entries_of, format_of};
+use crate::given::write_entry;
 use crate::status::{MEMORY, WRONG};
-use mt_record::{
-    Given, GivenChange, GivenKind, PartHead, encode_given_entry, encode_part_footer,
-    encode_part_header,
-};
+use mt_record::{Given, GivenChange, GivenKind, PartHead, encode_part_footer, encode_part_header};
 use std::alloc::Global;
 
 /// Writes the header of a part of this format to the beginning of `out`, and its length to `count`. It is part `part` of
@@ -57,7 +55,6 @@ pub extern "C" fn mtr_part_header(
 /// no part of this format, or it may not have the entry.
 #[unsafe(no_mangle)]
 pub extern "C" fn mtr_entry(
-    alloc: Global,
     format: u32,
     version: u64,
     key: &[u8],
@@ -66,7 +63,7 @@ pub extern "C" fn mtr_entry(
     count: &mut usize,
 ) -> u32
     ensures written { Writes (entry_spelling (entry_of version key.now (map column_of columns.now))) out.old out.new count.new result }
-    ensures certain { IsOneOf (DONE ∷ MEMORY ∷ WRONG ∷ SHORT ∷ []) result }
+    ensures certain { IsOneOf (DONE ∷ WRONG ∷ SHORT ∷ []) result }
     ensures refused { IsRefusedUnless (FitsPart format (entry_of version key.now (map column_of columns.now))) result }
     ensures untold { result ≢ DONE → result ≢ SHORT → count.new ≡ count.old }
 {
@@ -81,11 +78,7 @@ pub extern "C" fn mtr_entry(
     if !entry.fits(format) {
         return WRONG;
     }
-    let mut bytes = Vec::new(alloc);
-    match encode_given_entry(entry, &mut bytes) {
-        Ok(()) => write_bytes(&bytes, out, count),
-        Err(_) => MEMORY,
-    }
+    write_entry(entry, out, count)
 }
 
 /// Writes the footer of a part with `entries` entries to the beginning of `out`, and its length to `count`. The

@@ -1,14 +1,14 @@
-//! The words for a fault, and the versions of the library.
-ghost use Rattle.std.specs.Prelude.{◌≡◌, ◌≢◌, ◌∷◌, [], List, ℕ};
+//! The words for a status and for a fault, and the versions of the library.
+ghost use Rattle.std.specs.Prelude.{◌≡◌, ◌≢◌, ◌≤◌, ◌↔◌, ◌∷◌, [], List, ℕ, IsSome};
 ghost use Rattle.mt_words.specs.declared.fault.Fault.{Fault};
 ghost use Rattle.mt_c.specs.Told.{c_fault, CanBeTold};
 ghost use Rattle.mt_c.specs.Buffers.{Writes};
 ghost use Rattle.mt_c.specs.Statuses.{IsOneOf, IsRefusedUnless};
-ghost use Rattle.mt_c.specs.declared.status.TheConstants.{DONE, MEMORY, WRONG, SHORT};
+ghost use Rattle.mt_c.specs.declared.status.TheConstants.{DONE, MEMORY, WRONG, SHORT, FAILED};
 
 use crate::buffer::write_bytes;
 use crate::fault::CFault;
-use crate::status::{MEMORY, WRONG};
+use crate::status::{ABSENT, DONE, EARLY, FAILED, FAULT, FULL, MEMORY, SHORT, WRONG};
 use std::alloc::Global;
 
 /// The version of the library.
@@ -42,6 +42,40 @@ pub extern "C" fn mtr_version(versions: &mut Versions)
         log_format: LOG_FORMAT,
         part_format: PART_FORMAT,
     };
+}
+
+/// Writes the words for the status to the beginning of `out`, and their length to `count`. `WRONG`: there is no such
+/// status.
+#[unsafe(no_mangle)]
+pub extern "C" fn mtr_status_text(status: u32, out: &mut [u8], count: &mut usize) -> u32
+    ensures written { result ≢ WRONG → (words : List ℕ) × Writes words out.old out.new count.new result }
+    ensures kept { result ≢ DONE → out.new ≡ out.old }
+    ensures untold { result ≢ DONE → result ≢ SHORT → count.new ≡ count.old }
+    ensures certain { IsOneOf (DONE ∷ WRONG ∷ SHORT ∷ []) result }
+    ensures refused { IsRefusedUnless (status ≤ FAILED) result }
+{
+    match words_of(status) {
+        Some(words) => write_bytes(words.as_bytes(), out, count),
+        None => WRONG,
+    }
+}
+
+/// Returns the words for a status, or None if there is no such status.
+fn words_of(status: u32) -> Option<&'static str>
+    ensures { IsSome result ↔ status ≤ FAILED }
+{
+    match status {
+        DONE => Some("done"),
+        MEMORY => Some("out of memory"),
+        WRONG => Some("an argument is not lawful, or a place does not hold what the call needs"),
+        ABSENT => Some("there is no such key, column, pair or item"),
+        SHORT => Some("the buffer is too short"),
+        FAULT => Some("the bytes have a fault"),
+        EARLY => Some("what the call waits for did not happen yet"),
+        FULL => Some("the log has no room, or no stamp or number is left"),
+        FAILED => Some("a write or a sync failed"),
+        _ => None,
+    }
 }
 
 /// Writes the words for the fault to the beginning of `out`, and their length to `count`. `WRONG`: recovery tells no such

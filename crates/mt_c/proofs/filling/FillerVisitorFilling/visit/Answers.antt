@@ -1,4 +1,4 @@
-use Rattle.std.proofs.Common.{◌≡◌, ◌∙◌, ℕ, ◌+◌, ◌-◌, ◌++◌, take, drop, refl, ap, arith, drop-drop}
+use Rattle.std.proofs.Common.{◌≡◌, ◌∙◌, ℕ, ◌+◌, ◌-◌, ◌++◌, take, drop, refl, sym, ap, arith, drop-drop}
 use Rattle.mt_words.specs.Walks.{Pair}
 use Rattle.mt_c.specs.Flat.{pair_bytes}
 use Rattle.mt_c.proofs.Dumps.{is_unfull, pair_taken}
@@ -12,9 +12,10 @@ returns c =
     let bytes : c.fill_pair.new.out ≡ pair_bytes pair = c.fill_pair.ensures in
     let back : drop (end - old.at) (drop old.at old.out.now) ≡ drop end old.out.now =
     drop-drop (end - old.at) old.at old.out.now ∙ ap (λ (n : ℕ). drop n old.out.now) (omega arith) in
-    let unfull = is_unfull old.refused c.if-is_some.ensures in
+    let unfull = is_unfull old.stop c.if-is_some.ensures in
     record {
       same_out = refl;
-      filled = λ before earlier is. pair_taken before old _ earlier pair unfull unfull (ap (λ (n : ℕ). old.at + n) c.pair_length-length.ensures.value) (omega arith) (omega arith) (λ few. omega arith)
+      same_end = refl;
+      filled = λ before earlier is. pair_taken before old _ earlier pair unfull unfull refl (sym c.if-not-is_until.ensures) (ap (λ (n : ℕ). old.at + n) c.pair_length-length.ensures.value) (omega arith) (omega arith) (λ few. omega arith)
           (λ i. take old.at old.out.now ++ (bytes i ++ back i)) is;
     }
