@@ -17,7 +17,7 @@ use std::alloc::Global;
 use std::io::{self, Write};
 
 /// The number of bytes that fill a block. The last entry in a block may exceed it.
-const FULL: usize = 65_536;
+const FULL: usize = 4_096;
 
 /// Writes blocks of the entries of this stretch of the tree, of this version, and of the footer of a part that ends at
 /// `end`, in the file with this mark. Err: write error; out of memory.
