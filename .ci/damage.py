@@ -1,5 +1,6 @@
 """Stores to damage: their files, each update and where it lies, what damage leaves of a log, and what recovery must find in that.
 This is a model of its own of docs/RULES.md and docs/FORMATS.md."""
+from bisect import bisect_right
 from typing import NamedTuple
 
 from formats import ERASE, PUT, REMOVE, Update, header, mark, part, record
@@ -60,7 +61,7 @@ class Log(NamedTuple):
         return [lying.update for lying in self.records if lying.update]
 
     def versions(self):
-        return {update.version for update in self.updates()}
+        return versions_of(self.records)
 
     def last(self):
         return max(self.head.start, self.records[-1].timestamp if self.records else 0)
@@ -79,6 +80,10 @@ class Log(NamedTuple):
     def is_before(self, other):
         """Whether this is an earlier segment of the other's worker."""
         return self.head.worker == other.head.worker and self.head.segment < other.head.segment
+
+
+def versions_of(records):
+    return {lying.update.version for lying in records if lying.update}
 
 
 def log_of(name, head, records):
@@ -201,14 +206,15 @@ class Left(NamedTuple):
     has_head: bool
     front: list  # those directly behind the header
     later: list  # those that go on after damage
-    touched: set  # the versions of updates of which a byte changed or went
+    touched: set  # the versions of updates that are not kept: a byte changed or went, or they lie out of order
     state: str  # as `check` has it
 
     def end(self):
         return self.front[-1].end() if self.front else len(self.log.head.content()) * self.has_head
 
     def kept(self):
-        return self.front + self.later
+        """Returns as many of these as possible whose timestamps never fall."""
+        return longest_chain(self.front + self.later)
 
     def cut(self):
         return self.log.of(self.front)
@@ -239,9 +245,9 @@ def left_of(log, content, place=lambda at: at, has_head=None):
     head = log.head.content()
     has_head = content.startswith(head) if has_head is None else has_head
     runs, intact, end = [], set(), None
-    for lying in log.records:
-        at = place(lying.begin)
-        if at is None or not content.startswith(lying.content, at):
+    places = [(at, lying) for lying in log.records if (at := place(lying.begin)) is not None]
+    for at, lying in sorted(places, key=lambda one: one[0]):
+        if not content.startswith(lying.content, at):
             continue
         if at != end:
             runs.append([])
@@ -251,7 +257,24 @@ def left_of(log, content, place=lambda at: at, has_head=None):
     front = runs.pop(0) if has_head and runs and runs[0][0].begin == len(head) else []
     later = [lying for run in runs if goes_on(log, content, run) for lying in run]
     left = Left(log, content, has_head, front, later, log.versions() - intact, "header")
+    moved = versions_of(front + later) - versions_of(left.kept())
+    left = left._replace(touched=left.touched | moved)
     return left._replace(state=state_of(log.head.form, content[left.end() :])) if has_head else left
+
+
+def longest_chain(records):
+    """Returns as many of these records as possible, in order, whose timestamps never fall: of equally many those that the programs
+    choose."""
+    ends, places, before = [], [], []
+    for place, lying in enumerate(records):
+        rank = bisect_right(ends, lying.timestamp)
+        before.append(places[rank - 1] if rank else None)
+        ends[rank : rank + 1], places[rank : rank + 1] = [lying.timestamp], [place]
+    chain, place = [], places[-1] if places else None
+    while place is not None:
+        chain.append(records[place])
+        place = before[place]
+    return chain[::-1]
 
 
 def goes_on(log, content, run):

@@ -224,7 +224,7 @@ def flip_entry(name, truth):
 
 # Why more is lost than the least, or nothing tells of it.
 VALUE, MISSING = "formats 1 to 3 have no checksum", "a missing log is not missed"
-BLOCK, RISING = "a block counts as a whole", "what rises first is kept"
+BLOCK, ORDER = "a block counts as a whole", "timestamps of a log never fall"
 
 DAMAGES = [
     Damage("a bit of a length", flip("w0-0.mtl", 0.4, 3, 3), "record"),
@@ -273,7 +273,7 @@ DAMAGES = [
     Damage("format 2 reads as 0", flip_head("w2-0.mtl", 3, 1), "header"),
     Damage("garbage behind the end", append("w5-1.mtl", random.Random(1).randbytes(5000)), "record"),
     Damage("three logs damaged", three_at_once, "record, record, record"),
-    Damage("two pages swapped", swapped_pages, "record", rule=RISING),
+    Damage("two pages swapped", swapped_pages, "record", rule=ORDER),
     Damage("a page in another's place", repeated_page, "record"),
 ]
 

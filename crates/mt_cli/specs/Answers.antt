@@ -1,5 +1,5 @@
 -- What a query prints of a recovered store, in the form of the dump, or of its report.
-use Rattle.std.specs.Prelude.{◌≡◌, ◌⊎◌, Option, None, List, ℕ, Contains, false}
+use Rattle.std.specs.Prelude.{◌≡◌, ◌⊎◌, ◌++◌, Option, None, List, ℕ, Contains, codes, decimal, false}
 use Rattle.std.specs.Io.KnownBytes.{Keeps, Appends}
 use Rattle.mt_words.specs.Walks.{Pair}
 use Rattle.mt_text.specs.Forms.{IsDump, absent_text}
@@ -23,3 +23,4 @@ IsAnswer (queries.Get key form) recovered old new = IsDump form → (text : List
 IsAnswer (queries.Exists key) recovered old new = Keeps old new
 IsAnswer (queries.Range range form) recovered old new = IsDump form → range.columns ≡ None → Appends old new (dump_text (range_of range recovered.store))
 IsAnswer (queries.Dump form) recovered old new = IsDump form → Appends old new (dump_text recovered.store)
+IsAnswer queries.Count recovered old new = Appends old new (decimal recovered.report.keys ++ codes "\n")

@@ -1,5 +1,5 @@
 //! Answers a query, from the recovered store or by an audit.
-ghost use Rattle.std.specs.Prelude.{◌≡◌, None, List, ℕ, OnOk, false};
+ghost use Rattle.std.specs.Prelude.{◌≡◌, ◌++◌, None, List, ℕ, OnOk, codes, decimal, false};
 ghost use Rattle.std.specs.Io.KnownBytes.{Appends};
 ghost use Rattle.mt_text.specs.Forms.{IsDump};
 ghost use Rattle.mt_text.specs.Pairs.{dump_text};
@@ -203,6 +203,10 @@ pub fn print_answer<O: Write>(
             print_dump(store, *form, out)?;
             Ok(None)
         }
+        StoreQuery::Count => {
+            print_count(recovered.report(), out)?;
+            Ok(None)
+        }
     }
 }
 
@@ -220,6 +224,13 @@ fn print_report<O: Write>(report: &Report, is_json: bool, out: &mut O) -> io::Re
     line.number("last", &report.last)?;
     line.number("version", &report.version)?;
     line.end()
+}
+
+/// Prints the number of keys.
+fn print_count<O: Write>(report: &Report, out: &mut O) -> io::Result<()>
+    ensures { OnOk result (Appends (O.contents out.old) (O.contents out.new) (decimal report.now.keys ++ codes "\n")) }
+{
+    writeln!(out, "{}", report.keys)
 }
 
 /// Prints the pair of the key, or that it is absent.

@@ -4,25 +4,25 @@ ghost use Rattle.std.specs.Prelude.{◌<◌};
 use crate::checked::{Checked, CheckedLog};
 use crate::fates::{Fate, numbers_of};
 use crate::host::{Host, Run};
+use crate::row::{Cell, Field, write_row};
 use crate::sealed::text_in;
 use mt_record::{FeedFault, Rest, header_at, open_file, record_at};
-use mt_recover::Refusal;
 use mt_text::Shown;
 use mt_words::{Fault, Memory};
 use std::alloc::{AllocError, Global};
 use std::io::{self, Write};
 
 /// The width of a line without another, in characters.
-pub const USUAL_WIDTH: u64 = 80;
+const USUAL_WIDTH: u64 = 80;
 
 /// The fewest cells of an axis. A line gets wider if it must.
 const FEWEST_CELLS: usize = 10;
 
 /// A chart of the logs and checkpoints of a folder over one axis of timestamps.
 #[derive(Drop)]
-pub struct Chart {
+pub struct Chart<'a> {
     /// The logs, and then the checkpoints.
-    rows: Vec<Row>,
+    rows: Vec<Row<'a>>,
     axis: Axis,
     /// The cutoff. None: recovery names a fault.
     cutoff: Option<u64>,
@@ -30,8 +30,9 @@ pub struct Chart {
 
 /// A log or a checkpoint.
 #[derive(Drop)]
-struct Row {
-    /// Its name.
+struct Row<'a> {
+    /// Its name, as a value and as text.
+    name: Field<'a>,
     label: String,
     /// Where its timestamps lie. A span hides those before it.
     spans: Vec<Span>,
@@ -63,7 +64,7 @@ struct Axis {
 
 impl Axis {
     /// Returns the axis that has all spans. Without one it has just 0.
-    fn of(rows: &[Row]) -> Axis {
+    fn of(rows: &[Row<'_>]) -> Axis {
         let mut axis = Axis {
             least: u64::MAX,
             greatest: 0,
@@ -90,13 +91,13 @@ impl Axis {
     }
 }
 
-impl Chart {
+impl<'a> Chart<'a> {
     /// Returns the chart of what was checked. `firsts` are the timestamps of the first record of each log, if it has one.
-    pub fn of(
+    fn of(
         alloc: Global,
-        checked: &Checked<'_>,
+        checked: &Checked<'a>,
         firsts: &[Option<u64>],
-    ) -> Result<Chart, Memory> {
+    ) -> Result<Chart<'a>, Memory> {
         let cutoff = match &checked.start {
             Ok(start) => Some(start.window.cutoff),
             Err(_) => None,
@@ -104,6 +105,7 @@ impl Chart {
         let mut rows = Vec::new(alloc);
         for (log, first) in checked.logs.iter().zip(firsts) {
             rows.push(Row {
+                name: ("file", Cell::Name(log.file.name)),
                 label: format!(in alloc; "{}", Shown(log.file.name))?,
                 spans: spans_of_log(alloc, log, *first, cutoff)?,
                 note: note_of_log(alloc, log, cutoff.is_some())?,
@@ -112,6 +114,7 @@ impl Chart {
         for number in &numbers_of(alloc, &checked.parts)? {
             let fate = Fate::of(*number, &checked.parts, &checked.start);
             rows.push(Row {
+                name: ("checkpoint", Cell::Number(Some(u64::from(*number)))),
                 label: format!(in alloc; "checkpoint {number}")?,
                 spans: spans_of_checkpoint(alloc, &fate, cutoff)?,
                 note: String::from_str(alloc, fate.word)?,
@@ -124,8 +127,33 @@ impl Chart {
         })
     }
 
-    /// Prints the chart in lines of this width: the ends of the axis, a line for each row, and what the marks mean.
-    pub fn write<W: Write>(&self, width: usize, out: &mut W) -> io::Result<()> {
+    /// Prints a JSON object for each span of a row: what its mark means, where it lies, and what becomes of the row.
+    pub fn write_json<W: Write>(&self, out: &mut W) -> io::Result<()> {
+        for row in &self.rows {
+            for span in &row.spans {
+                let Some(word) = word_of(span.mark) else {
+                    continue;
+                };
+                let fields = [
+                    row.name,
+                    ("span", Cell::Word(word)),
+                    ("from", Cell::Number(Some(span.from))),
+                    ("to", Cell::Number(Some(span.to))),
+                    ("note", Cell::Word(row.note.as_str())),
+                ];
+                write_row(&fields, true, out)?;
+            }
+        }
+        match self.cutoff {
+            Some(cutoff) => write_row(&[("cutoff", Cell::Number(Some(cutoff)))], true, out),
+            None => Ok(()),
+        }
+    }
+
+    /// Prints the chart in lines of this width, or of the usual one: the ends of the axis, a line for each row, and what the
+    /// marks mean.
+    pub fn write<W: Write>(&self, width: Option<u64>, out: &mut W) -> io::Result<()> {
+        let width = width.unwrap_or(USUAL_WIDTH) as usize;
         let mut labels = 0;
         let mut notes = 0;
         for row in &self.rows {
@@ -167,7 +195,7 @@ impl Chart {
     }
 
     /// Returns the mark of a cell of a row: that of the last span that has it.
-    fn mark_at(&self, row: &Row, cell: usize, cells: usize) -> u8 {
+    fn mark_at(&self, row: &Row<'_>, cell: usize, cells: usize) -> u8 {
         let mut mark = b' ';
         for span in &row.spans {
             let from = self.axis.cell(span.from, cells);
@@ -176,6 +204,19 @@ impl Chart {
             }
         }
         mark
+    }
+}
+
+/// Returns what a mark means. None: it is not that of a span, but of a place that others have too.
+fn word_of(mark: u8) -> Option<&'static str> {
+    match mark {
+        b'=' => Some("complete"),
+        b'x' => Some("late"),
+        b'.' => Some("hole"),
+        b'!' => Some("torn"),
+        b'#' => Some("damaged"),
+        b'-' => Some("checkpoint"),
+        _ => None,
     }
 }
 
@@ -198,7 +239,7 @@ fn spans_of_log(
     }
     spans.push(Span::new(from, to, b'='))?;
     match cutoff {
-        Some(cutoff) if cutoff <= to => spans.push(Span::new(from.max(cutoff), to, b'x'))?,
+        Some(cutoff) if cutoff < to => spans.push(Span::new(from.max(cutoff), to, b'x'))?,
         _ => {}
     }
     push_cutoff(cutoff, &mut spans)?;
@@ -286,19 +327,13 @@ fn write_blanks<W: Write>(count: usize, out: &mut W) -> io::Result<()> {
 const READ: u64 = 8;
 
 impl<'a, R: Host> Run<'a, R> {
-    /// Prints a chart of what was checked, in lines of this width, or of the usual one.
-    pub fn draw_chart<W: Write>(
-        &self,
-        checked: &Checked<'_>,
-        width: Option<u64>,
-        out: &mut W,
-    ) -> Result<(), Refusal<'static>> {
+    /// Returns the chart of what was checked.
+    pub fn chart<'c>(&self, checked: &Checked<'c>) -> Result<Chart<'c>, Memory> {
         let mut firsts = Vec::with_capacity(self.rt.alloc(), checked.logs.len())?;
         for log in &checked.logs {
             firsts.push(self.first_of(log.file.name)?)?;
         }
-        let chart = Chart::of(self.rt.alloc(), checked, &firsts)?;
-        Ok(chart.write(width.unwrap_or(USUAL_WIDTH) as usize, out)?)
+        Chart::of(self.rt.alloc(), checked, &firsts)
     }
 
     /// Returns the timestamp of the first record of the log of this name. None: it has none, or cannot be read again.

@@ -6,7 +6,7 @@ use crate::fates::{Fate, PartState, numbers_of};
 use crate::heads::continued;
 use crate::row::{Cell, Field, write_row};
 use crate::sealed::PART_HEADER;
-use mt_record::{LogFront, Rest, Segment};
+use mt_record::{Head, LogFront, Rest, Segment};
 use mt_recover::{LogCheck, Refusal, Start};
 use mt_scan::writer_count;
 use mt_text::Shown;
@@ -312,6 +312,14 @@ impl CheckedLog<'_> {
         match self.front() {
             Some(front) => front.count > 0,
             None => matches!(&self.ending, Some(ending) if ending.again.is_some()),
+        }
+    }
+
+    /// Returns its header, if it has late updates.
+    pub fn late_head(&self) -> Option<Head> {
+        match &self.check {
+            Ok(check) if check.late > 0 => Some(check.front.head),
+            _ => None,
         }
     }
 

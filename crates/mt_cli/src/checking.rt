@@ -37,7 +37,8 @@ impl<'a, R: Host> Run<'a, R> {
         self.find_copies(&mut checked)?;
         let mut out = BufWriter::with_capacity(alloc, PRINTED_AT_ONCE, out)?;
         match form {
-            CheckForm::Chart(width) => self.draw_chart(&checked, width, &mut out)?,
+            CheckForm::Chart(width) => self.chart(&checked)?.write(width, &mut out)?,
+            CheckForm::Spans => self.chart(&checked)?.write_json(&mut out)?,
             CheckForm::Lines | CheckForm::Json => {
                 checked.write(alloc, form == CheckForm::Json, &mut out)?;
                 self.write_ways(&checked, form == CheckForm::Json, &mut out)?;
@@ -46,6 +47,7 @@ impl<'a, R: Host> Run<'a, R> {
         out.flush()?;
         if self.folder.is_verbose {
             checked.tell_hints(err);
+            self.tell_late(&checked, err)?;
         }
         let caveat = checked.losses().map(Caveat::Losses);
         let caveat = self.tell_noted(caveat, checked.writers(alloc)?, err)?;
@@ -223,9 +225,9 @@ impl<'a, R: Host> Run<'a, R> {
         };
         match Sealed::open(alloc, bytes) {
             Ok(log) => {
-                let reached = log.reached();
-                let end = log.first.file_at(reached.at) as u64;
-                Ok((Some(end), log.ending(alloc, reached)?))
+                let at = log.records_end();
+                let end = log.first.file_at(at) as u64;
+                Ok((Some(end), log.ending(alloc, at)?))
             }
             Err(Fault::Memory) => Err(Memory),
             Err(_) => Ok((None, None)),

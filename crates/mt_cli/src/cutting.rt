@@ -2,23 +2,23 @@
 use crate::answering::PRINTED_AT_ONCE;
 use crate::halt::Halt;
 use crate::host::Host;
-use crate::intake::{LogIntake, Reached, open, unread};
+use crate::intake::{LogIntake, open, unread};
 use crate::request::Cut;
-use crate::salvaging::cut_part;
-use crate::sealed::{Salvaged, Sealed, unopened};
+use crate::salvaging::{Placed, Salvage, cut_part};
+use crate::sealed::{Piece, Sealed, TEXT_HEADER, unopened};
 use crate::stop::Stop;
 use mt_record::{
-    Head, KeptRecords, LogFeed, Segment, Stretch, encode_head, encode_record, header_at,
-    is_sealed_part, part_header_at, salvage_records,
+    Head, Items, KeptRecords, LogFeed, Segment, encode_head, encode_record, header_at,
+    is_sealed_part, part_header_at,
 };
 use mt_recover::Refusal;
 use mt_words::{Fault, Record};
 use std::alloc::Global;
 use std::io::{self, ErrorKind, Read, Write};
 
-/// Prints a log of complete records of the log, byte for byte, as it reads them, and tells on `err` what it leaves out. It
-/// holds only what follows the first fault or torn tail. Of a log of format 4 it holds all, and prints its text, a segment. Of a
-/// part it prints, if it is to skip damage, the part of its entries.
+/// Prints a log of complete records of the log, byte for byte, as it reads them, and tells on `err` what it leaves out. If it
+/// is to skip damage, it holds the file, and prints as many records as possible, in order, whose timestamps never fall; of a
+/// part the part of its entries. A log of format 4 it holds as well, and prints its text, a segment.
 pub fn cut<'a, R: Host, O: Write, E: Write>(
     rt: &R,
     path: &'a str,
@@ -34,7 +34,8 @@ pub fn cut<'a, R: Host, O: Write, E: Write>(
         }
         let log = Sealed::open(rt.alloc(), file.into_all().map_err(unread)?).map_err(unopened)?;
         let cutter = Cutter::new(rt.alloc(), log.front.head, how, out)?;
-        return Ok(cutter.cut_sealed(&log, path, is_verbose, err)?);
+        cutter.cut_sealed(&log, path, is_verbose, err)?;
+        return Ok(());
     }
     if how.is_skipping && how.header.is_none() && has_part_header(&file.held) {
         return cut_part(rt.alloc(), file.into_all().map_err(unread)?, how, out, err);
@@ -48,16 +49,27 @@ pub fn cut<'a, R: Host, O: Write, E: Write>(
         },
     };
     file.pass(first);
-    let log = LogIntake::new(rt.alloc(), file, head)?;
-    let cutter = Cutter::new(rt.alloc(), head, how, out)?;
-    if cutter.cut(log, path, is_verbose, err)? || how.header.is_none() {
+    let has_records = if how.is_skipping {
+        let bytes = file.into_all().map_err(unread)?;
+        let size = first.saturating_add(bytes.len());
+        let text = Piece::of_rest(rt.alloc(), bytes, first)?;
+        let mut found = Vec::new(rt.alloc());
+        text.find(rt.alloc(), Items::Records, head.format, 0, &mut found)?;
+        let cutter = Cutter::new(rt.alloc(), head, how, out)?;
+        cutter.salvage(&found, first, size, err)?
+    } else {
+        let log = LogIntake::new(rt.alloc(), file, head)?;
+        let cutter = Cutter::new(rt.alloc(), head, how, out)?;
+        cutter.cut(log, path, is_verbose, err)?
+    };
+    if has_records || how.header.is_none() {
         return Ok(());
     }
     Err(has_no_record(rt.alloc(), head.from))
 }
 
 /// Returns whether a file is a part, as its first bytes say.
-fn has_part_header(bytes: &[u8]) -> bool {
+pub fn has_part_header(bytes: &[u8]) -> bool {
     part_header_at(bytes).is_some() || is_sealed_part(bytes)
 }
 
@@ -156,8 +168,8 @@ impl<'x, O: Write> Cutter<'x, O> {
         })
     }
 
-    /// Prints the records of the log, and tells on `err` what is left out or skipped, and where a segment then ends. Returns
-    /// whether it has some.
+    /// Prints the records of the log, and tells on `err` what is left out, and where a segment then ends. Returns whether it
+    /// has some.
     fn cut<F: Read + Drop, E: Write>(
         self,
         log: LogIntake<F>,
@@ -168,32 +180,16 @@ impl<'x, O: Write> Cutter<'x, O> {
         let mut cutter = self;
         let mut log = log;
         for _ in 0..u64::MAX {
-            cutter.print(log.held_to(log.before.at))?;
+            cutter.print(log.records())?;
             log.pass();
             if !log.more()? {
                 break;
             }
         }
         log.read_rest()?;
-        if cutter.how.is_skipping {
-            cutter.salvage(&log, err)?;
-        } else {
-            cutter.print(log.held_to(log.reached().at))?;
-            cutter.out.flush()?;
-            if let Some(stop) = Stop::of(cutter.alloc, &log)? {
-                cutter.is_cut = true;
-                // A write error is passed over.
-                let _ = writeln!(err, "mtrecover: left out: {stop}");
-                if is_verbose {
-                    stop.tell_hints(path, err);
-                }
-            }
-        }
-        cutter.mark(err)?;
-        if let Some(end) = cutter.end()? {
-            end.tell(err);
-        }
-        Ok(cutter.has_records)
+        cutter.out.flush()?;
+        let stop = Stop::of(cutter.alloc, &log)?;
+        cutter.finish(stop, path, is_verbose, err)
     }
 
     /// Prints the records of a log of format 4, likewise.
@@ -203,33 +199,64 @@ impl<'x, O: Write> Cutter<'x, O> {
         path: &str,
         is_verbose: bool,
         err: &mut E,
-    ) -> Result<(), Refusal<'static>> {
+    ) -> Result<bool, Refusal<'static>> {
         let mut cutter = self;
-        cutter.print(log.records())?;
         if cutter.how.is_skipping {
             let behind = log.behind(cutter.alloc)?;
-            let all = log.salvage(cutter.alloc, log.reached(), &behind)?;
-            for salvaged in &all {
-                cutter.print(salvaged.kept)?;
-            }
-            cutter.out.flush()?;
-            cutter.is_cut = tell_passed(log, &all, err) || cutter.is_cut;
-        } else {
-            cutter.out.flush()?;
-            if let Some(stop) = Stop::of_sealed(cutter.alloc, log)? {
-                cutter.is_cut = true;
-                // A write error is passed over.
-                let _ = writeln!(err, "mtrecover: left out: {stop}");
-                if is_verbose {
-                    stop.tell_hints(path, err);
-                }
+            let found = log.find(cutter.alloc, TEXT_HEADER, &behind)?;
+            return cutter.salvage(&found, log.first.file_at(TEXT_HEADER), log.size(), err);
+        }
+        cutter.print(log.records())?;
+        cutter.out.flush()?;
+        let stop = Stop::of_sealed(cutter.alloc, log)?;
+        cutter.finish(stop, path, is_verbose, err)
+    }
+
+    /// Prints as many of these records as possible, in order, whose timestamps never fall, and tells on `err` what is skipped
+    /// of a file of this size, the first record of which would begin at the byte `begin`, and where a segment then ends. Returns
+    /// whether it has some.
+    fn salvage<E: Write>(
+        self,
+        found: &[Placed<'_>],
+        begin: usize,
+        size: usize,
+        err: &mut E,
+    ) -> Result<bool, Refusal<'static>> {
+        let mut cutter = self;
+        let mut all = Salvage::of(cutter.alloc, found, begin)?;
+        for record in &all.kept {
+            cutter.print(record.bytes)?;
+        }
+        cutter.out.flush()?;
+        cutter.is_cut = cutter.is_cut || all.end < size;
+        all.skip_to(size)?;
+        all.tell("records", err);
+        cutter.finish(None, "", false, err)
+    }
+
+    /// Ends the log, and tells on `err` where its records stop, if something follows that is left out, and where a segment then
+    /// ends. Returns whether it has a record.
+    fn finish<E: Write>(
+        self,
+        stop: Option<Stop>,
+        path: &str,
+        is_verbose: bool,
+        err: &mut E,
+    ) -> Result<bool, Refusal<'static>> {
+        let mut cutter = self;
+        if let Some(stop) = stop {
+            cutter.is_cut = true;
+            // A write error is passed over.
+            let _ = writeln!(err, "mtrecover: left out: {stop}");
+            if is_verbose {
+                stop.tell_hints(path, err);
             }
         }
         cutter.mark(err)?;
         if let Some(end) = cutter.end()? {
             end.tell(err);
         }
-        Ok(())
+        Ok(cutter.has_records)
     }
 
     /// Ends the log with the mark that is wanted, if one is and it ends before that, and tells on `err` what may be lost.
@@ -277,23 +304,6 @@ impl<'x, O: Write> Cutter<'x, O> {
         Ok(self.out.write_all(kept)?)
     }
 
-    /// Prints the records of all stretches of the log that are not printed, and tells on `err` what was skipped.
-    fn salvage<F, E: Write>(
-        &mut self,
-        log: &LogIntake<F>,
-        err: &mut E,
-    ) -> Result<(), Refusal<'static>> {
-        let (format, held) = (self.head.format, log.file.held.as_slice());
-        let stretches = salvage_records(self.alloc, format, log.before.latest, held)?;
-        for stretch in &stretches {
-            self.print(stretch.kept)?;
-            self.is_cut = self.is_cut || !stretch.skipped.is_empty();
-        }
-        self.out.flush()?;
-        tell_skipped(log.before, &stretches, err);
-        Ok(())
-    }
-
     /// Returns where the segment ends, if its last bytes are not printed.
     fn end(&self) -> Result<Option<SegmentEnd>, Refusal<'static>> {
         match (self.head.segment, &self.feed) {
@@ -303,42 +313,6 @@ impl<'x, O: Write> Cutter<'x, O> {
             }
             _ => Ok(None),
         }
-    }
-}
-
-/// Prints a line for each span of bytes that was skipped, from where the records were read `before`.
-fn tell_skipped<E: Write>(before: Reached, stretches: &[Stretch<'_>], err: &mut E) {
-    let mut end = before.at;
-    let mut records = before.count as usize;
-    for stretch in stretches {
-        let from = end.saturating_add(stretch.kept.len());
-        end = from.saturating_add(stretch.skipped.len());
-        records = records.saturating_add(stretch.count);
-        tell_span(from, end, records, err);
-    }
-}
-
-/// Prints a line for each span of a log of format 4 that was skipped. Returns whether its last bytes were.
-fn tell_passed<E: Write>(log: &Sealed, all: &[Salvaged<'_>], err: &mut E) -> bool {
-    let mut records = log.front.count as usize;
-    let mut at = log.first.file_at(log.reached().at);
-    for salvaged in all {
-        tell_span(salvaged.from, salvaged.to, records, err);
-        records = records.saturating_add(salvaged.count);
-        at = salvaged.end;
-    }
-    tell_span(at, log.size(), records, err);
-    at < log.size()
-}
-
-/// Prints the line of a span of bytes that was skipped after so many records, unless it is empty.
-fn tell_span<E: Write>(from: usize, to: usize, records: usize, err: &mut E) {
-    let bytes = to.saturating_sub(from);
-    if bytes > 0 {
-        let _ = writeln!(
-            err,
-            "mtrecover: skipped: from={from} to={to} bytes={bytes} records={records}"
-        );
     }
 }
 

@@ -1,7 +1,7 @@
 //! What follows the complete records of a log, or the entries of a part.
-use crate::hints::{Hints, zeros_at_end};
-use crate::intake::{Intake, LogIntake, Reached};
-use mt_record::salvage_records;
+use crate::hints::{Feeds, Hints, zeros_at_end};
+use crate::intake::{Intake, LogIntake};
+use mt_record::{Items, find_items};
 use mt_recover::Refusal;
 use mt_words::{Format, Memory};
 use std::alloc::Global;
@@ -23,7 +23,7 @@ pub struct Ending {
     pub hints: Option<Hints>,
 }
 
-/// Records that go on after damage, as `cut --skip` prints them.
+/// Records or entries that go on after damage, as `cut --skip` finds them.
 #[derive(Clone, Copy)]
 pub struct Again {
     /// The byte where the first of them begins.
@@ -39,33 +39,35 @@ impl Ending {
         log: &LogIntake<F>,
     ) -> Result<Option<Ending>, Refusal<'static>> {
         let format = log.front()?.head.format;
-        let ending = Ending::of(alloc, format, log.before, log.reached().at, &log.file)?;
+        let ending = Ending::of(alloc, format, log.end(), log.rest(), log.file.feeds)?;
         Ok((ending.bytes > 0).then_some(ending))
     }
 
     /// Returns what is in a log that has no header: all that its file holds. None: nothing. Err: out of memory.
     pub fn of_all<F>(alloc: Global, file: &Intake<F>) -> Result<Option<Ending>, Memory> {
-        let ending = Ending::of(alloc, WIDEST, Reached::begin(0), 0, file)?;
+        let ending = Ending::of(alloc, WIDEST, 0, &file.held, file.feeds)?;
         Ok((ending.bytes > 0).then_some(ending))
     }
 
-    /// Returns what follows in a log of this format, whose complete records end at the byte `end`. The file holds all bytes
-    /// from where they were read `before`.
-    fn of<F>(
+    /// Returns what follows in a log of this format, whose complete records end at the byte `end`, from the line feeds of
+    /// all its bytes.
+    fn of(
         alloc: Global,
         format: Format,
-        before: Reached,
         end: usize,
-        file: &Intake<F>,
+        rest: &[u8],
+        feeds: Feeds,
     ) -> Result<Ending, Memory> {
-        let held = file.held.as_slice();
-        let again = Again::find(alloc, format, before, held, end)?;
-        let rest = held.get(end.saturating_sub(before.at)..).unwrap_or(&[]);
+        let found = find_items(alloc, Items::Records, format, rest)?;
+        let again = found.first().map(|first| Again {
+            at: end.saturating_add(first.skipped.len()),
+            records: found.len(),
+        });
         Ok(Ending {
             bytes: rest.len(),
             zeros: zeros_at_end(rest),
             again,
-            hints: Some(Hints::of(file.feeds, rest, end, again)),
+            hints: Some(Hints::of(feeds, rest, end, again)),
         })
     }
 
@@ -99,34 +101,5 @@ impl Ending {
             next,
             Some(after as u64),
         ]
-    }
-}
-
-impl Again {
-    /// Returns where records go on after the byte `end`, up to which they are complete. `salvage_records` searches the bytes
-    /// from where they were read `before`. None: nowhere. Err: out of memory.
-    fn find(
-        alloc: Global,
-        format: Format,
-        before: Reached,
-        bytes: &[u8],
-        end: usize,
-    ) -> Result<Option<Again>, Memory> {
-        let mut again: Option<Again> = None;
-        let mut at = before.at;
-        for stretch in &salvage_records(alloc, format, before.latest, bytes)? {
-            // The first one has the complete records, if there are some.
-            if stretch.count > 0 && (at > before.at || before.at >= end) {
-                let found = again.unwrap_or(Again { at, records: 0 });
-                again = Some(Again {
-                    at: found.at,
-                    records: found.records.saturating_add(stretch.count),
-                });
-            }
-            at = at
-                .saturating_add(stretch.kept.len())
-                .saturating_add(stretch.skipped.len());
-        }
-        Ok(again)
     }
 }

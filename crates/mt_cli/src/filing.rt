@@ -6,12 +6,13 @@ use crate::cutting::cut;
 use crate::ending::WIDEST;
 use crate::halt::Halt;
 use crate::host::Host;
-use crate::intake::{Intake, LogIntake, Reached, open, unread};
+use crate::intake::{Intake, LogIntake, open, unread};
 use crate::listing::Names;
 use crate::noting::note_cut;
 use crate::request::{Cut, FileCommand, FileQuery};
 use crate::saving::{begin_path, finish_path, give_up_path};
 use crate::sealed::{Sealed, SealedPart, is_footer, unopened};
+use crate::stats::print_stats;
 use crate::stop::Stop;
 use mt_record::{
     Head, PartFault, PartFeed, PartHead, entry_at, header_at, is_sealed_part, part_header_at,
@@ -49,6 +50,7 @@ pub fn answer_file<R: Host, O: Write, E: Write>(
         )),
         FileQuery::Cut(how, target) => cut_into(rt, path, how, *target, is_verbose, out, err),
         FileQuery::Records(selection, at) => records(rt, path, selection, *at, out),
+        FileQuery::Stats(is_json) => print_stats(rt, path, *is_json, out).map(|_| None),
     };
     match answered {
         Ok(stop) => tell_stop(stop, is_verbose.then_some(path), err),
@@ -226,12 +228,7 @@ fn of_sealed<O: Write>(
     if at.is_none() {
         return Stop::of_sealed(alloc, log);
     }
-    let before = Reached {
-        at: listed.at,
-        latest: listed.latest,
-        count: listed.number,
-    };
-    Stop::at_sealed(alloc, log, before)
+    Stop::at_sealed(alloc, log, listed.at)
 }
 
 /// The header by which a log is read that has lost its own.

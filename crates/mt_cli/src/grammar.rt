@@ -2,7 +2,7 @@
 use self::Kind::{Flag, From, List, Most, Number, OneOf, UpTo, Value, Word};
 use clap::builder::ValueParser;
 use clap::{Arg, ArgAction, Command};
-use mt_record::ENOUGH_RECORDS;
+use mt_record::ENOUGH_ITEMS;
 use mt_recover::{MOST_BYTES, MOST_FILES, MOST_PIECES, MOST_WORKERS};
 use mt_words::GREATEST_COLUMN;
 use std::alloc::{AllocError, Global};
@@ -97,7 +97,7 @@ pub const PIECES: Argument = argument! { "pieces", UpTo("P", MOST_PIECES as u64,
     "Cut the keys into at most this many ranges, which threads replay: 1 to 4096" };
 
 pub const WRITERS: Argument = argument! { "writers", From("N", 1, u64::MAX),
-    "How many writers there must be, where a worker's segments are one: other numbers are told, and are a loss for resume and checkpoint" };
+    "The number of writers that there must be; a worker's segments are one. Another number is told, and is a loss for resume and checkpoint" };
 
 pub const VERBOSE: Argument = argument! { "verbose", Flag,
     "After a failure, print its file or the system's reason, and what to try; after an answer, what it lost; of a damaged log, what may have happened" };
@@ -105,7 +105,8 @@ pub const VERBOSE: Argument = argument! { "verbose", Flag,
 pub const PROGRESS: Argument =
     argument! { "progress", Flag, "Print on standard error how far it has come, at most a line a second" };
 
-pub const JSON: Argument = argument! { "json", Flag, "Print a JSON object a line" };
+pub const JSON: Argument =
+    argument! { "json", Flag, "Print a JSON object a line, on standard error too" };
 
 pub const TEXT: Argument =
     argument! { "text", Flag, "Keys and values are text with escapes, as \\n and \\x00, and not hexadecimal" };
@@ -153,12 +154,16 @@ pub const NUMBER: Argument =
 pub const PART_LIMIT: Argument = argument! { "limit", UpTo("BYTES", MOST_BYTES, "1073741824"),
     "Begin another part rather than write more bytes: 1 to 1073741824" };
 
-/// The most bytes of the text of a part, whose file then has at most `MOST_BYTES`: its blocks have 65,536 bytes and more, and
+/// The most bytes of the text of a part, whose file then has at most `MOST_BYTES`: its blocks have 4,096 bytes and more, and
 /// take 16 more each.
-pub const MOST_TEXT: u64 = MOST_BYTES - 1_048_576;
+pub const MOST_TEXT: u64 = MOST_BYTES - 4_194_304;
 
 pub const EXISTS: Argument =
     argument! { "exists", Flag, "Print nothing: the status is 0 if the key is there, 4 if not" };
+
+pub const COUNT_KEYS: Argument = argument! { "count", Flag, "Print only the number of keys" };
+
+pub const NO_VALUE: Argument = argument! { "no-value", Flag, "Print keys without their columns" };
 
 pub const TO: Argument = argument! { "to", Value("KEY"), "Print only keys below this one" };
 
@@ -180,9 +185,12 @@ pub const RECORD_KEY: Argument =
 pub const AT: Argument = argument! { "at", From("BYTE", 0, u64::MAX),
     "Read on at this byte, for example after a fault, also if the header is lost; numbers count from there" };
 
+pub const STATS: Argument = argument! { "stats", Flag,
+    "Print only how many there are of each kind, also behind damage, their bytes, and the least and greatest timestamp" };
+
 pub const SKIP: Argument =
     argument! { "skip", Flag, "Go on after damage, where 8 records in a row begin, or fewer that end the log. \
-    A record with a timestamp above the next one's is damaged, if that is not below the one before. \
+    As many are printed as can be, so that their timestamps never fall. The file is held in memory. \
     Complete records within the value of a damaged one are printed" };
 
 pub const HEADER: Argument = argument! { "header", Value("HEADER"),
@@ -221,7 +229,7 @@ const QUESTIONS: &[Subcommand] = subcommands! {
     "range", [JSON, TEXT, KEY, COUNT, TO, PREFIX, COLUMNS],
         "Prints the first keys at or after a key, with their columns",
         "Example: mtrecover range examples/store 6b 2";
-    "dump", [JSON, TEXT],
+    "dump", [JSON, TEXT, COUNT_KEYS, NO_VALUE],
         "Prints all keys with their columns",
         "Example: mtrecover dump examples/store --workers 8";
 };
@@ -254,10 +262,10 @@ const CHANGERS: &[Subcommand] = subcommands! {
 
 /// Those that take no folder.
 const OTHERS: &[Subcommand] = subcommands! {
-    "records", [LOG_OR_PART, VERBOSE, FROM, LIMIT, RECORD_KEY, AT, JSON],
+    "records", [LOG_OR_PART, VERBOSE, FROM, LIMIT, RECORD_KEY, AT, JSON, STATS],
         "Prints the records of a log, or the entries of a part, with their numbers and the bytes where they begin",
         "Example: mtrecover records examples/a.mtl --from 1 --limit 2";
-    "cut", [LOG_OR_PART, VERBOSE, SKIP, HEADER, BELOW, END, OUTPUT],
+    "cut", [LOG_OR_PART, VERBOSE, SKIP, HEADER, BELOW, END, OUTPUT, JSON],
         "Prints a log of the complete records of a log, up to its fault or torn tail, or with --skip beyond it; with --skip also a part of the complete entries of a part",
         "To go on with a damaged log (docs/RUNBOOK.md has what that loses):\n\
         \x20 test -e BACKUP || { cp -a DIR/. BACKUP.new && sync && mv BACKUP.new BACKUP; }\n\
@@ -346,7 +354,7 @@ const _: () = prove!(MOST_WORKERS == 64 && MOST_PIECES == 4096);
 
 const _: () = prove!(MOST_FILES == 512 && MOST_BYTES == 1_073_741_824);
 
-const _: () = prove!(ENOUGH_RECORDS == 8 && LEAST_WIDTH == 40 && GREATEST_WIDTH == 1000);
+const _: () = prove!(ENOUGH_ITEMS == 8 && LEAST_WIDTH == 40 && GREATEST_WIDTH == 1000);
 
 impl Argument {
     /// Returns the grammar of the argument.

@@ -54,7 +54,7 @@ impl<F: Read + Drop> Intake<F> {
         Ok((count > 0).then_some(before))
     }
 
-    /// Reads to the end of the file, and returns all of it, if no byte was passed. Err: read error, or out of memory.
+    /// Reads to the end of the file, and returns all of it that was not passed. Err: read error, or out of memory.
     pub fn into_all(self) -> io::Result<Vec<u8>> {
         let mut file = self;
         file.read(u64::MAX)?;
@@ -105,28 +105,6 @@ pub fn unread(error: io::Error) -> Refusal<'static> {
     Refusal::of(Failure::Recovery(Fault::Source { log: 0 }), error)
 }
 
-/// How far the records of a log were read.
-#[derive(Clone, Copy)]
-pub struct Reached {
-    /// The byte of the file where they end.
-    pub at: usize,
-    /// The timestamp of the last one, or 0.
-    pub latest: u64,
-    /// Their number.
-    pub count: u64,
-}
-
-impl Reached {
-    /// Returns that no record was read, and the first one begins at this byte.
-    pub fn begin(at: usize) -> Reached {
-        Reached {
-            at,
-            latest: 0,
-            count: 0,
-        }
-    }
-}
-
 /// A log whose file is read in pieces.
 #[derive(Drop)]
 pub struct LogIntake<F> {
@@ -138,9 +116,6 @@ pub struct LogIntake<F> {
     header: u64,
     /// Whether the feed has found no fault.
     is_sound: bool,
-    /// How far the records were read before the last piece that completed one. From there on the file holds them, since
-    /// the last one may stand out (see `salvage_records`).
-    pub before: Reached,
 }
 
 impl<F> LogIntake<F> {
@@ -152,27 +127,29 @@ impl<F> LogIntake<F> {
         }
     }
 
-    /// Returns how far the records were read.
-    pub fn reached(&self) -> Reached {
-        let (bytes, count) = match self.feed.front() {
-            Ok(front) => (
-                front.bytes.saturating_sub(self.header) as usize,
-                front.count,
-            ),
+    /// Returns the byte of the file where the records end that were read.
+    pub fn end(&self) -> usize {
+        let bytes = match self.feed.front() {
+            Ok(front) => front.bytes.saturating_sub(self.header) as usize,
             // Out of memory.
-            Err(_) => (0, 0),
+            Err(_) => 0,
         };
-        Reached {
-            at: self.begin.saturating_add(bytes),
-            latest: self.feed.latest(),
-            count,
-        }
+        self.begin.saturating_add(bytes)
     }
 
-    /// Returns the bytes that the file holds before this byte of it.
-    pub fn held_to(&self, byte: usize) -> &[u8] {
-        let count = byte.saturating_sub(self.file.at);
-        self.file.held.get(..count).unwrap_or(&[])
+    /// Returns the records that the file holds.
+    pub fn records(&self) -> &[u8] {
+        self.file.held.get(..self.count()).unwrap_or(&[])
+    }
+
+    /// Returns what the file holds after the records.
+    pub fn rest(&self) -> &[u8] {
+        self.file.held.get(self.count()..).unwrap_or(&[])
+    }
+
+    /// Returns the number of bytes of the records that the file holds.
+    fn count(&self) -> usize {
+        self.end().saturating_sub(self.file.at)
     }
 }
 
@@ -193,7 +170,6 @@ impl<F: Read + Drop> LogIntake<F> {
             begin,
             header: header.len() as u64,
             is_sound: true,
-            before: Reached::begin(begin),
         };
         log.feed_from(0);
         Ok(log)
@@ -201,11 +177,7 @@ impl<F: Read + Drop> LogIntake<F> {
 
     /// Feeds the bytes that the file holds from this one of them on.
     fn feed_from(&mut self, first: usize) {
-        let before = self.reached();
         self.is_sound = feed_piece(&mut self.feed, self.file.held.get(first..));
-        if self.reached().at > before.at {
-            self.before = before;
-        }
     }
 
     /// Reads the next piece. Returns false at the end of the file, and once a fault of its records was read.
@@ -223,9 +195,9 @@ impl<F: Read + Drop> LogIntake<F> {
         }
     }
 
-    /// Passes over the records that the file need not hold any more.
+    /// Passes over the records that the file holds.
     pub fn pass(&mut self) {
-        let count = self.before.at.saturating_sub(self.file.at);
+        let count = self.count();
         self.file.pass(count);
     }
 

@@ -102,6 +102,8 @@ pub enum CheckForm {
     Json,
     /// As a chart, in lines of this width, or of the usual one.
     Chart(Option<u64>),
+    /// As what a chart has: a JSON object of each span.
+    Spans,
 }
 
 /// How to answer the lines of the input.
@@ -167,6 +169,8 @@ pub struct Trace {
 pub enum FileQuery<'a> {
     /// The wanted records of a log, or entries of a part, from this byte on, or from the first one on.
     Records(Selection, Option<u64>),
+    /// How many records or entries there are of each kind, as JSON or not.
+    Stats(bool),
     /// A log of the complete records of a log, written into the file of this path if one is given.
     Cut(Cut, Option<&'a str>),
 }
@@ -207,6 +211,8 @@ pub enum StoreQuery {
     Range(Range, Form),
     /// All pairs.
     Dump(Form),
+    /// The number of pairs.
+    Count,
 }
 
 /// The pairs of a range: the first ones, up to a number.

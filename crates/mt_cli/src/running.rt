@@ -8,6 +8,7 @@ use crate::halt::Halt;
 use crate::host::{self, Host, lock_folder};
 use crate::listing::{Names, list};
 use crate::request::{Command, Folder, FolderCommand};
+use crate::told::Told;
 use crate::words::command;
 use mt_recover::{Failure, Refusal};
 use std::env::{self, Env};
@@ -59,7 +60,7 @@ fn words_of_process<R: AllocGlobal + Env>(rt: &R) -> io::Result<Vec<String>> {
 }
 
 /// Does what these arguments ask and returns the exit status. The name of the program is not among them. At a terminal an
-/// answer is followed by what was lost or passed over.
+/// answer is followed by what was lost or passed over. With `--json` each line on `err` is an object, as nowhere else.
 pub fn run_words<R: Host, I: Read + IsTerminal, O: Write, E: Write + Send>(
     rt: &R,
     words: &[String],
@@ -70,11 +71,14 @@ pub fn run_words<R: Host, I: Read + IsTerminal, O: Write, E: Write + Send>(
 ) -> u8
     ensures status { result ≤ 5 }
 {
-    let mut asked = match command(rt, words, around.at_terminal, out, err) {
+    let is_json = words.iter().any(|word| word.as_str() == "--json");
+    let at_terminal = around.at_terminal && !is_json;
+    let err = &mut Told::new(rt.alloc(), is_json, err);
+    let mut asked = match command(rt, words, at_terminal, out, err) {
         Ok(asked) => asked,
         Err(status) => return status,
     };
-    if around.at_terminal {
+    if at_terminal {
         asked.tell_at_terminal();
     }
     asked.fit(around.columns);

@@ -1,161 +1,208 @@
-//! Salvages broken parts: finds their entries, and prints the part that these make.
+//! Salvages damaged files: chooses what is kept of the records that are found in a log, or of the entries in a part.
 use crate::ending::Again;
 use crate::halt::Halt;
 use crate::request::Cut;
 use crate::sealed::{BEFORE_BODY, Piece, pieces_from, text_head};
 use mt_block::part_header_at as sealed_header_at;
 use mt_record::{
-    FOOTER_BYTES, PartHead, Stretch, encode_salvaged_part, footer_of, part_header_at,
-    salvage_entries,
+    FOOTER_BYTES, Found, Items, PartHead, encode_salvaged_part, footer_of, keep_most,
+    part_header_at,
 };
 use mt_words::{Fault, Memory};
 use std::alloc::Global;
 use std::io::{self, ErrorKind, Write};
 
-/// A part as it stands in its file: in one piece or, if it is of format 4, in pieces between damaged blocks.
-#[derive(Drop)]
-pub struct PartPieces {
-    /// The header of its text.
-    head: PartHead,
-    pieces: Vec<Piece>,
-    /// The byte of the file where its first entry is, if nothing is damaged before it.
-    begin: usize,
-    /// The number of bytes of the file.
-    size: usize,
+/// A record or an entry that was found, and where it begins and ends in its file.
+#[derive(Clone, Copy)]
+pub struct Placed<'s> {
+    pub item: Found<'s>,
+    pub from: usize,
+    pub to: usize,
 }
 
-/// What is salvaged of a part.
+/// What is kept of a damaged file.
 #[derive(Drop)]
 pub struct Salvage<'s> {
-    /// The stretches of its entries.
-    stretches: Vec<Stretch<'s>>,
-    /// The number of these entries.
-    entries: usize,
-    /// What is skipped of its file, in order.
+    /// The records or entries.
+    pub kept: Vec<Found<'s>>,
+    /// What is skipped of the file, in order.
     skipped: Vec<Skipped>,
-    /// Where its checkpoint ends, as its footer says. None: it has lost that, or has one that cannot be true.
-    end: Option<u64>,
+    /// The byte of the file where the last one ends, or the first would begin.
+    pub end: usize,
 }
 
-/// Bytes of a part that are skipped.
+/// Bytes of a file that are skipped.
 #[derive(Clone, Copy)]
 struct Skipped {
     from: usize,
     to: usize,
-    /// The number of entries before them.
-    entries: usize,
+    /// The number of records or entries before them.
+    count: usize,
 }
 
-impl PartPieces {
-    /// Opens the part of these bytes. None: it has no header. Err: out of memory.
-    pub fn open(alloc: Global, bytes: Vec<u8>) -> Result<Option<PartPieces>, Memory> {
-        let size = bytes.len();
-        if let Some((header, rest)) = sealed_header_at(&bytes) {
-            let first = size.saturating_sub(rest.len());
-            let pieces = pieces_from(alloc, header.mark(), &bytes, first)?;
-            return Ok(Some(PartPieces {
-                head: text_head(header),
-                pieces,
-                begin: first.saturating_add(BEFORE_BODY),
-                size,
-            }));
+impl<'s> Salvage<'s> {
+    /// Keeps as many of these records as possible, so that their timestamps never fall; of entries, which have none, all. The
+    /// first one would begin at the byte `begin` of the file. Err: out of memory.
+    pub fn of(alloc: Global, found: &[Placed<'s>], begin: usize) -> Result<Salvage<'s>, Memory> {
+        let mut times = Vec::with_capacity(alloc, found.len())?;
+        for placed in found {
+            times.push(placed.item.timestamp)?;
         }
-        let Some((head, rest)) = part_header_at(&bytes) else {
-            return Ok(None);
-        };
-        let begin = size.saturating_sub(rest.len());
-        let mut text = bytes;
-        text.drain(..begin);
-        let mut pieces = Vec::new(alloc);
-        pieces.push(Piece::of_rest(alloc, text, begin)?)?;
-        Ok(Some(PartPieces {
-            head,
-            pieces,
-            begin,
-            size,
-        }))
-    }
-
-    /// Returns what can be salvaged of it. Err: out of memory.
-    pub fn salvage(&self, alloc: Global) -> Result<Salvage<'_>, Memory> {
+        let marks = keep_most(alloc, &times)?;
         let mut all = Salvage {
-            stretches: Vec::new(alloc),
-            entries: 0,
+            kept: Vec::new(alloc),
             skipped: Vec::new(alloc),
-            end: None,
+            end: begin,
         };
-        let mut from = self.begin;
-        let mut most = usize::MAX;
-        let last = self.pieces.len().saturating_sub(1);
-        for (number, piece) in self.pieces.iter().enumerate() {
-            let text = match footer_of(&piece.text) {
-                // Zeros in a value that is cut may look like a footer.
-                Some((end, count)) if number == last && end >= self.head.begin => {
-                    all.end = Some(end);
-                    most = count as usize;
-                    let bytes = piece.text.len().saturating_sub(FOOTER_BYTES);
-                    piece.text.get(..bytes).unwrap_or(&[])
-                }
-                _ => piece.text.as_slice(),
-            };
-            let mut at: usize = 0;
-            for stretch in &salvage_entries(alloc, self.head.format, text)? {
-                let end = at.saturating_add(stretch.kept.len());
-                if stretch.count > 0 {
-                    all.skip(from, piece.file_at(at))?;
-                    all.entries = all.entries.saturating_add(stretch.count);
-                    from = piece.file_at(end);
-                }
-                all.stretches.push(*stretch)?;
-                at = end.saturating_add(stretch.skipped.len());
+        for (placed, is_kept) in found.iter().zip(&marks) {
+            if *is_kept {
+                all.skip_to(placed.from)?;
+                all.kept.push(placed.item)?;
+                all.end = placed.to;
             }
-            if all.end.is_some() {
-                all.skip(from, piece.file_at(text.len()))?;
-                from = piece.end();
-            }
-        }
-        all.skip(from, self.size)?;
-        if all.entries > most {
-            all.end = None;
         }
         Ok(all)
     }
-}
 
-impl Salvage<'_> {
-    /// Adds the bytes of the file between these two that are skipped, if there are some. Err: out of memory.
-    fn skip(&mut self, from: usize, to: usize) -> Result<(), Memory> {
-        if from < to {
+    /// Skips what is left of the file before this byte. Err: out of memory.
+    pub fn skip_to(&mut self, byte: usize) -> Result<(), Memory> {
+        if self.end < byte {
             self.skipped.push(Skipped {
-                from,
-                to,
-                entries: self.entries,
+                from: self.end,
+                to: byte,
+                count: self.kept.len(),
             })?;
+            self.end = byte;
         }
         Ok(())
     }
 
-    /// Returns where entries go on after the first damage. None: nowhere.
+    /// Returns where records or entries go on after the first damage. None: nowhere.
     pub fn again(&self) -> Option<Again> {
         let first = self.skipped.first()?;
-        let records = self.entries.saturating_sub(first.entries);
+        let records = self.kept.len().saturating_sub(first.count);
         (records > 0).then_some(Again {
             at: first.to,
             records,
         })
     }
 
-    /// Prints a line for each span that was skipped. A write error is passed over.
-    fn tell<E: Write>(&self, err: &mut E) {
+    /// Prints a line for each span that is skipped; `items` is what is counted. A write error is passed over.
+    pub fn tell<E: Write>(&self, items: &str, err: &mut E) {
         for span in &self.skipped {
-            let Skipped { from, to, entries } = *span;
+            let Skipped { from, to, count } = *span;
             let bytes = to.saturating_sub(from);
             let _ = writeln!(
                 err,
-                "mtrecover: skipped: from={from} to={to} bytes={bytes} entries={entries}"
+                "mtrecover: skipped: from={from} to={to} bytes={bytes} {items}={count}"
             );
         }
     }
+}
+
+/// A part as it stands in its file: in one piece or, if it is of format 4, in pieces between damaged blocks.
+#[derive(Drop)]
+pub struct PartPieces {
+    /// The header of its text.
+    head: PartHead,
+    /// Its entries.
+    pieces: Vec<Piece>,
+    /// Its footer. None: it has lost that, or has one that cannot be true.
+    footer: Option<Footer>,
+    /// The byte of the file where its first entry is, if nothing is damaged before it.
+    begin: usize,
+    /// The number of bytes of the file.
+    size: usize,
+}
+
+/// The footer of a part, and where it stands in the file.
+#[derive(Clone, Copy)]
+struct Footer {
+    from: usize,
+    to: usize,
+    /// Where the checkpoint ends, and the number of entries.
+    end: u64,
+    count: u32,
+}
+
+impl PartPieces {
+    /// Opens the part of these bytes. None: it has no header. Err: out of memory.
+    pub fn open(alloc: Global, bytes: Vec<u8>) -> Result<Option<PartPieces>, Memory> {
+        let size = bytes.len();
+        let (head, mut pieces, begin) = match sealed_header_at(&bytes) {
+            Some((header, rest)) => {
+                let first = size.saturating_sub(rest.len());
+                let pieces = pieces_from(alloc, header.mark(), &bytes, first)?;
+                (text_head(header), pieces, first.saturating_add(BEFORE_BODY))
+            }
+            None => {
+                let Some((head, rest)) = part_header_at(&bytes) else {
+                    return Ok(None);
+                };
+                let begin = size.saturating_sub(rest.len());
+                let mut text = bytes;
+                text.drain(..begin);
+                let mut pieces = Vec::new(alloc);
+                pieces.push(Piece::of_rest(alloc, text, begin)?)?;
+                (head, pieces, begin)
+            }
+        };
+        let footer = take_footer(&mut pieces, head.begin);
+        Ok(Some(PartPieces {
+            head,
+            pieces,
+            footer,
+            begin,
+            size,
+        }))
+    }
+
+    /// Returns its entries, wherever they are. Err: out of memory.
+    pub fn find(&self, alloc: Global) -> Result<Vec<Placed<'_>>, Memory> {
+        let mut found = Vec::new(alloc);
+        for piece in &self.pieces {
+            piece.find(alloc, Items::Entries, self.head.format, 0, &mut found)?;
+        }
+        Ok(found)
+    }
+
+    /// Returns what can be salvaged of it. Err: out of memory.
+    pub fn salvage(&self, alloc: Global) -> Result<Salvage<'_>, Memory> {
+        let found = self.find(alloc)?;
+        let mut all = Salvage::of(alloc, &found, self.begin)?;
+        if let Some(footer) = self.footer {
+            all.skip_to(footer.from)?;
+            all.end = footer.to;
+        }
+        all.skip_to(self.size)?;
+        Ok(all)
+    }
+
+    /// Returns where its checkpoint ends, as its footer says, if that can be true of so many entries.
+    fn end(&self, entries: usize) -> Option<u64> {
+        let footer = self.footer?;
+        (entries <= footer.count as usize).then_some(footer.end)
+    }
+}
+
+/// Takes the footer from the last piece of a part whose checkpoint begins at this timestamp. None: it has none that can be
+/// true. Zeros in a value that is cut may look like one.
+fn take_footer(pieces: &mut Vec<Piece>, begin: u64) -> Option<Footer> {
+    let Some(last) = pieces.last_mut() else {
+        return None;
+    };
+    let (end, count) = footer_of(&last.text)?;
+    if end < begin {
+        return None;
+    }
+    let to = last.end();
+    last.cut_off(FOOTER_BYTES);
+    Some(Footer {
+        from: last.end(),
+        to,
+        end,
+        count,
+    })
 }
 
 /// Prints the part of the entries of a part that can be salvaged, in format 2 if it is of format 4, and tells on `err` what it
@@ -174,14 +221,14 @@ pub fn cut_part<'a, O: Write, E: Write>(
         return Err(Halt::from(Fault::Header { log: 0 }));
     };
     let all = part.salvage(alloc)?;
-    let Some(end) = how.end.or(all.end) else {
+    let Some(end) = how.end.or(part.end(all.kept.len())) else {
         return Err(refused(
             alloc,
             "it has no footer that can be true",
             "say by --end where its checkpoint ends, as its other parts and check do",
         ));
     };
-    let Some(made) = encode_salvaged_part(alloc, part.head, end, &all.stretches)? else {
+    let Some(made) = encode_salvaged_part(alloc, part.head, end, &all.kept)? else {
         return Err(refused(
             alloc,
             "it has 4294967296 entries or more",
@@ -190,7 +237,7 @@ pub fn cut_part<'a, O: Write, E: Write>(
     };
     out.write_all(&made)?;
     out.flush()?;
-    all.tell(err);
+    all.tell("entries", err);
     Ok(())
 }
 

@@ -1,11 +1,11 @@
 //! A file of format 4 that is held as a whole: its text, and where each byte of this stands in the file.
 use crate::ending::{Again, Ending};
 use crate::hints::zeros_at_end;
-use crate::intake::Reached;
+use crate::salvaging::Placed;
 use mt_block::{FRAME_BYTES, PartHeader, find_head, next_block, part_header_at};
 use mt_record::{
-    BlockAt, FOOTER_BYTES, KeptRecords, LogFeed, LogFront, OpenedFile, PartHead, footer_of,
-    open_file, record_at, salvage_records,
+    BlockAt, FOOTER_BYTES, Items, KeptRecords, LogFeed, LogFront, OpenedFile, PartHead, find_items,
+    footer_of, open_file,
 };
 use mt_recover::{Failure, Refusal};
 use mt_words::{Fault, Format, Memory};
@@ -17,7 +17,7 @@ pub const PART_HEADER: usize = 36;
 
 const HEADER: usize = 44;
 
-const TEXT_HEADER: usize = 20;
+pub const TEXT_HEADER: usize = 20;
 
 /// The bytes of a block before its body.
 pub const BEFORE_BODY: usize = 12;
@@ -27,6 +27,8 @@ pub const BEFORE_BODY: usize = 12;
 pub struct Piece {
     pub text: Vec<u8>,
     blocks: Vec<BlockAt>,
+    /// The bytes of a block before its body.
+    before: usize,
     /// The byte of the file where the blocks end.
     end: usize,
 }
@@ -37,6 +39,7 @@ impl Piece {
         let mut piece = Piece {
             text: Vec::new(alloc),
             blocks: Vec::new(alloc),
+            before: BEFORE_BODY,
             end: at,
         };
         for _ in 0..u64::MAX {
@@ -57,15 +60,25 @@ impl Piece {
         Ok(piece)
     }
 
-    /// Returns this text, which ends a file and begins at this byte of it, as if it stood in one block. Err: out of memory.
+    /// Returns this text, which ends a file and begins at this byte of it, as a block that is nothing but its body. Err: out of
+    /// memory.
     pub fn of_rest(alloc: Global, text: Vec<u8>, at: usize) -> Result<Piece, Memory> {
         let mut blocks = Vec::new(alloc);
-        blocks.push(BlockAt {
-            file: at.saturating_sub(BEFORE_BODY),
-            text: 0,
-        })?;
+        blocks.push(BlockAt { file: at, text: 0 })?;
         let end = at.saturating_add(text.len());
-        Ok(Piece { text, blocks, end })
+        Ok(Piece {
+            text,
+            blocks,
+            before: 0,
+            end,
+        })
+    }
+
+    /// Takes away so many bytes that end its text.
+    pub fn cut_off(&mut self, bytes: usize) {
+        let left = self.text.len().saturating_sub(bytes);
+        self.end = self.file_at(left);
+        self.text.truncate(left);
     }
 
     /// Returns the byte of the file where its blocks end.
@@ -82,17 +95,40 @@ impl Piece {
         match self.blocks.get(before.saturating_sub(1)) {
             Some(block) => block
                 .file
-                .saturating_add(BEFORE_BODY)
+                .saturating_add(self.before)
                 .saturating_add(text.saturating_sub(block.text)),
             None => self.end,
         }
+    }
+
+    /// Appends the records or entries from this byte of its text on. Err: out of memory.
+    pub fn find<'s>(
+        &'s self,
+        alloc: Global,
+        items: Items,
+        format: Format,
+        start: usize,
+        all: &mut Vec<Placed<'s>>,
+    ) -> Result<(), Memory> {
+        let text = self.text.get(start..).unwrap_or(&[]);
+        let mut at = start;
+        for item in &find_items(alloc, items, format, text)? {
+            let from = at.saturating_add(item.skipped.len());
+            at = from.saturating_add(item.bytes.len());
+            all.push(Placed {
+                item: *item,
+                from: self.file_at(from),
+                to: self.file_at(at),
+            })?;
+        }
+        Ok(())
     }
 
     /// Returns the first byte of the records or entries in the text that stands at this byte of the file or behind it.
     fn text_at(&self, file: usize) -> usize {
         let mut found = TEXT_HEADER;
         for block in &self.blocks {
-            let body = block.file.saturating_add(BEFORE_BODY);
+            let body = block.file.saturating_add(self.before);
             if body > file {
                 return found.min(block.text);
             }
@@ -112,18 +148,6 @@ pub struct Sealed {
     pub front: LogFront,
     /// Its text, up to the end or the first damage.
     pub first: Piece,
-}
-
-/// Records that go on after damage.
-#[derive(Clone, Copy)]
-pub struct Salvaged<'s> {
-    /// The records, one after the other, and their number.
-    pub kept: &'s [u8],
-    pub count: usize,
-    /// The bytes of the file where those before them end, and where they begin and end.
-    pub from: usize,
-    pub to: usize,
-    pub end: usize,
 }
 
 impl Sealed {
@@ -160,23 +184,24 @@ impl Sealed {
             mark: header.mark(),
             bytes,
             front,
-            first: Piece { text, blocks, end },
+            first: Piece {
+                text,
+                blocks,
+                before: BEFORE_BODY,
+                end,
+            },
         })
     }
 
-    /// Returns how far its records are read, by the bytes of its text.
-    pub fn reached(&self) -> Reached {
-        Reached {
-            at: self.front.bytes as usize,
-            latest: self.front.latest,
-            count: self.front.count,
-        }
+    /// Returns the byte of its text where its complete records end.
+    pub fn records_end(&self) -> usize {
+        self.front.bytes as usize
     }
 
     /// Returns the bytes of its complete records.
     pub fn records(&self) -> &[u8] {
         let text = self.first.text.as_slice();
-        text.get(TEXT_HEADER..self.reached().at).unwrap_or(&[])
+        text.get(TEXT_HEADER..self.records_end()).unwrap_or(&[])
     }
 
     /// Returns the byte of the text where reading begins: from this byte of the file on, or from the first record on.
@@ -201,73 +226,37 @@ impl Sealed {
         self.bytes.get(at..).unwrap_or(&[])
     }
 
-    /// Returns the records that go on from where those before were read, in the text and in what is behind.
-    pub fn salvage<'s>(
+    /// Returns the records from this byte of its text on, and in what is behind. Err: out of memory.
+    pub fn find<'s>(
         &'s self,
         alloc: Global,
-        before: Reached,
+        at: usize,
         behind: &'s [Piece],
-    ) -> Result<Vec<Salvaged<'s>>, Memory> {
+    ) -> Result<Vec<Placed<'s>>, Memory> {
+        let format = self.front.head.format;
         let mut all = Vec::new(alloc);
-        let mut latest = before.latest;
-        let mut from = self.first.file_at(before.at);
-        latest = self.salvage_in(alloc, &self.first, before.at, latest, &mut from, &mut all)?;
+        self.first
+            .find(alloc, Items::Records, format, at, &mut all)?;
         for piece in behind {
-            latest = self.salvage_in(alloc, piece, 0, latest, &mut from, &mut all)?;
+            piece.find(alloc, Items::Records, format, 0, &mut all)?;
         }
         Ok(all)
     }
 
-    /// Appends the records of a piece from this byte of it on. Returns the timestamp of the last one, or `latest`.
-    fn salvage_in<'s>(
-        &self,
-        alloc: Global,
-        piece: &'s Piece,
-        start: usize,
-        latest: u64,
-        from: &mut usize,
-        all: &mut Vec<Salvaged<'s>>,
-    ) -> Result<u64, Memory> {
-        let format = self.front.head.format;
-        let text = piece.text.get(start..).unwrap_or(&[]);
-        let mut at = start;
-        let mut latest = latest;
-        for stretch in &salvage_records(alloc, format, latest, text)? {
-            let end = at.saturating_add(stretch.kept.len());
-            if stretch.count > 0 {
-                all.push(Salvaged {
-                    kept: stretch.kept,
-                    count: stretch.count,
-                    from: *from,
-                    to: piece.file_at(at),
-                    end: piece.file_at(end),
-                })?;
-                latest = last_in(alloc, format, latest, stretch.kept)?;
-                *from = piece.file_at(end);
-            }
-            at = end.saturating_add(stretch.skipped.len());
-        }
-        Ok(latest)
-    }
-
-    /// Returns what follows the records that were read so far, from its beginning or from elsewhere. None: nothing.
-    pub fn ending(&self, alloc: Global, before: Reached) -> Result<Option<Ending>, Memory> {
-        let rest = self.bytes_from(self.first.file_at(before.at));
+    /// Returns what follows its records, which were read up to this byte of its text. None: nothing. Err: out of memory.
+    pub fn ending(&self, alloc: Global, at: usize) -> Result<Option<Ending>, Memory> {
+        let rest = self.bytes_from(self.first.file_at(at));
         if rest.is_empty() {
             return Ok(None);
         }
         let behind = self.behind(alloc)?;
-        let all = self.salvage(alloc, before, &behind)?;
-        let mut records: usize = 0;
-        for salvaged in &all {
-            records = records.saturating_add(salvaged.count);
-        }
+        let all = self.find(alloc, at, &behind)?;
         Ok(Some(Ending {
             bytes: rest.len(),
             zeros: zeros_at_end(rest),
             again: all.first().map(|first| Again {
-                at: first.to,
-                records,
+                at: first.from,
+                records: all.len(),
             }),
             hints: None,
         }))
@@ -382,17 +371,3 @@ pub fn unopened(fault: Fault) -> Refusal<'static> {
 
 /// What is wrong with a file of format 4 that has lost its header.
 pub const NO_HEADER: &str = "it is of format 4, and its header is not whole";
-
-/// Returns the timestamp of the last of these records, or `latest`.
-fn last_in(alloc: Global, format: Format, latest: u64, records: &[u8]) -> Result<u64, Memory> {
-    let mut latest = latest;
-    let mut rest = records;
-    for _ in 0..u64::MAX {
-        let Some((record, after)) = record_at(alloc, format, latest, rest)? else {
-            break;
-        };
-        latest = record.timestamp();
-        rest = after;
-    }
-    Ok(latest)
-}

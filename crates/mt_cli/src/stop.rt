@@ -4,7 +4,7 @@ ghost use Rattle.std.specs.Prelude.{◌≤◌};
 use crate::caveat::plural;
 use crate::ending::{Again, Ending};
 use crate::hints::MANY_ZEROS;
-use crate::intake::{LogIntake, Reached};
+use crate::intake::LogIntake;
 use crate::sealed::Sealed;
 use mt_record::Rest;
 use mt_recover::Refusal;
@@ -63,7 +63,7 @@ impl Stop {
             Rest::Torn => Wrong::Torn,
             Rest::Faulty(what) => Wrong::Record(what),
         };
-        match Stop::at_sealed(alloc, log, log.reached())? {
+        match Stop::at_sealed(alloc, log, log.records_end())? {
             Some(stop) => Ok(Some(Stop {
                 reason: Some((log.front.count, fault)),
                 ..stop
@@ -72,18 +72,18 @@ impl Stop {
         }
     }
 
-    /// Returns that the records of a log of format 4 stop where they were read. None: no byte follows. Err: out of memory.
+    /// Returns that the records of a log of format 4 stop at this byte of its text. None: no byte follows. Err: out of memory.
     pub fn at_sealed(
         alloc: Global,
         log: &Sealed,
-        before: Reached,
+        at: usize,
     ) -> Result<Option<Stop>, Refusal<'static>> {
-        let Some(ending) = log.ending(alloc, before)? else {
+        let Some(ending) = log.ending(alloc, at)? else {
             return Ok(None);
         };
         Ok(Some(Stop {
             name: "record",
-            at: log.first.file_at(before.at),
+            at: log.first.file_at(at),
             reason: None,
             ending,
         }))
@@ -120,7 +120,7 @@ impl Stop {
         };
         Ok(Some(Stop {
             name: "record",
-            at: log.reached().at,
+            at: log.end(),
             reason: None,
             ending,
         }))

@@ -3,10 +3,11 @@ ghost use Rattle.std.specs.Prelude.{◌≤◌, IfErr};
 
 use crate::explaining::{or_tell, tell};
 use crate::grammar::{
-    ACCEPT_LOSS, AT, BELOW, CHART, COLUMNS, COUNT, DRY_RUN, END, ERRORS, EXISTS, FILE_BYTES, FILES,
-    FOLDER, FROM, HEADER, JSON, KEY, LIMIT, LOG_OR_PART, MAX_LATE, MOST_TEXT, NO_LOGS, NUMBER, OUT,
-    OUTPUT, PART_LIMIT, PIECES, PREFIX, PROGRESS, RECORD_KEY, SHELL, SKIP, STATUS, STRICT,
-    STRICT_RESUME, STRICT_SHELL, TEXT, TO, VERBOSE, WIDTH, WORKERS, WRITERS, grammar,
+    ACCEPT_LOSS, AT, BELOW, CHART, COLUMNS, COUNT, COUNT_KEYS, DRY_RUN, END, ERRORS, EXISTS,
+    FILE_BYTES, FILES, FOLDER, FROM, HEADER, JSON, KEY, LIMIT, LOG_OR_PART, MAX_LATE, MOST_TEXT,
+    NO_LOGS, NO_VALUE, NUMBER, OUT, OUTPUT, PART_LIMIT, PIECES, PREFIX, PROGRESS, RECORD_KEY,
+    SHELL, SKIP, STATS, STATUS, STRICT, STRICT_RESUME, STRICT_SHELL, TEXT, TO, VERBOSE, WIDTH,
+    WORKERS, WRITERS, grammar,
 };
 use crate::listing::Names;
 use crate::loss::Budget;
@@ -107,6 +108,7 @@ fn has_bad_header(matches: &ArgMatches<'_>) -> bool {
 fn read<'a>(alloc: Global, matches: &ArgMatches<'a>) -> Result<Command<'a>, Refusal<'static>> {
     let (name, matches) = matches.subcommand().ok_or(Failure::Words)?;
     let query = match name {
+        "records" if matches.get_flag(STATS.name) => FileQuery::Stats(matches.get_flag(JSON.name)),
         "records" => FileQuery::Records(selection(alloc, matches)?, matches.get_one(AT.name)),
         "cut" => FileQuery::Cut(cut(matches), matches.get_str(OUTPUT.name)),
         _ => return of_folder(alloc, name, matches),
@@ -181,13 +183,11 @@ fn budget(matches: &ArgMatches<'_>) -> Result<Budget, Refusal<'static>> {
 
 /// Returns how to print what is in the files of a folder.
 fn check_form(matches: &ArgMatches<'_>) -> CheckForm {
-    if matches.get_flag(CHART.name) {
-        return CheckForm::Chart(matches.get_one(WIDTH.name));
-    }
-    if matches.get_flag(JSON.name) {
-        CheckForm::Json
-    } else {
-        CheckForm::Lines
+    match (matches.get_flag(CHART.name), matches.get_flag(JSON.name)) {
+        (true, false) => CheckForm::Chart(matches.get_one(WIDTH.name)),
+        (true, true) => CheckForm::Spans,
+        (false, true) => CheckForm::Json,
+        (false, false) => CheckForm::Lines,
     }
 }
 
@@ -268,6 +268,10 @@ pub fn question_of(
         }
         "get" => StoreQuery::Get(found(key(alloc, matches, KEY.name)?)?, form(matches)),
         "range" => StoreQuery::Range(range(alloc, matches)?, form(matches)),
+        "dump" if matches.get_flag(COUNT_KEYS.name) => StoreQuery::Count,
+        "dump" if matches.get_flag(NO_VALUE.name) => {
+            StoreQuery::Range(all_keys(alloc)?, form(matches))
+        }
         "dump" => StoreQuery::Dump(form(matches)),
         "history" => {
             return Ok(Question::History(Trace {
@@ -278,6 +282,17 @@ pub fn question_of(
         _ => return Err(Refusal::from(Failure::Words)),
     };
     Ok(Question::Store(query))
+}
+
+/// Returns the range of all keys, without a column.
+fn all_keys(alloc: Global) -> Result<Range, Refusal<'static>> {
+    Ok(Range {
+        from: found(Key::new(Vec::new(alloc)))?,
+        count: u32::MAX,
+        to: None,
+        prefix: None,
+        columns: Some(Vec::new(alloc)),
+    })
 }
 
 /// Returns the form in which pairs are printed.
