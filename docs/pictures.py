@@ -28,11 +28,9 @@ def tag(name, text="", **attributes):
     return f"<{name}{words}>{text}</{name}>" if text else f"<{name}{words}/>"
 
 
-def text(x, y, words, anchor="start", fill=INK, weight="normal", size=12, halo=False):
-    """A line of text. A halo keeps what lies behind away from it."""
+def text(x, y, words, anchor="start", fill=INK, weight="normal", size=12):
     escaped = words.replace("&", "&amp;").replace("<", "&lt;")
-    around = {"stroke": "#ffffff", "stroke_width": 4, "paint_order": "stroke"} if halo else {}
-    return tag("text", escaped, x=x, y=y, text_anchor=anchor, fill=fill, font_weight=weight, font_size=size, **around)
+    return tag("text", escaped, x=x, y=y, text_anchor=anchor, fill=fill, font_weight=weight, font_size=size)
 
 
 def line(x1, y1, x2, y2, stroke=LINE, width=1, dash=None):
@@ -149,6 +147,8 @@ def recovery():
 # ---- Speed ----
 
 ROW, TOP, PLAIN, MEMORY = 17, 62, "#94a3b8", "#7aa2d6"
+# The width of a letter of 10 units.
+LETTER = 6
 
 
 def stages():
@@ -161,55 +161,63 @@ def stages():
                 name = name[: name.rindex(",")]
             is_compared = name.startswith(("the list", "the same")) or "alike" in name
             if found and not is_compared:
-                yield name, [(SURVIVES, float(found[1]))]
+                yield name, [(SURVIVES, float(found[1]))], f"{float(found[1]):.2f}"
 
 
 def inputs():
-    """Yields each input with the seconds of `mtrecover` and of plain Rust."""
+    """Yields each input with the times of both plain Rust programs, and the seconds."""
     with open(DOCS / "history/inputs.csv", newline="") as table:
         for row in csv.DictReader(table):
-            yield row["updates"], [(SURVIVES, float(row["mtrecover_seconds"])), (PLAIN, float(row["plain_rust_seconds"]))]
+            times = [row["times_plain_rust"], row["times_mapped"]]
+            words = f"{times[0]}, {times[1]}; {float(row['mtrecover_seconds']):.2f} s"
+            yield row["updates"], [(SURVIVES, float(times[0])), (PLAIN, float(times[1]))], words
 
 
-def bars(left, top, names, head, unit, rows, digits, bound=None):
-    """A panel of bars: a name, then for each value its color and its length. Returns its shapes and where it ends."""
-    zero, room = left + names, 396 - names - 66
-    most = max(value for _, values in rows for _, value in values)
+def hostile():
+    """Yields each shape with its processor time and memory, beside those of random keys."""
+    with open(DOCS / "history/shapes.csv", newline="") as table:
+        for row in csv.DictReader(table):
+            times, memory = float(row["times_random"]), float(row["memory_times_random"])
+            yield row["shape"], [(SURVIVES, times), (MEMORY, memory)], f"{times:.1f}, {memory:.1f}"
+
+
+def bars(left, top, names, head, unit, rows, bound=None):
+    """A panel of bars: a name, then for each value its color and its length, then words, to the right of the bound's line.
+    Returns its shapes and where it ends."""
+    widest = max(len(words) for _, _, words in rows) * LETTER
+    zero, room = left + names, 394 - names - widest
+    most = max(value for _, values, _ in rows for _, value in values)
     low = top + ROW * len(rows)
+    edge = zero + room * bound / most if bound else 0
     drawn = [text(left, top - 38, head, weight="bold"), text(left, top - 20, unit, fill=QUIET, size=11)]
     if bound:
-        drawn.append(line(zero + room * bound / most, top - 4, zero + room * bound / most, low, DROPPED, 1, "4 3"))
-    for index, (name, values) in enumerate(rows):
+        drawn.append(line(edge, top - 4, edge, low, DROPPED, 1, "4 3"))
+    for index, (name, values, words) in enumerate(rows):
         y = top + ROW * index
         drawn.append(text(zero - 6, y + 9, name, "end", size=10.5))
         height = 11 / len(values)
         for place, (color, value) in enumerate(values):
             drawn.append(box(zero, y + height * place, max(1, room * value / most), height - 0.5, color))
-        words = ", ".join(f"{value:.{digits}f}" for _, value in values)
-        longest = max(value for _, value in values)
-        drawn.append(text(zero + room * longest / most + 5, y + 9, words, fill=QUIET, size=10, halo=True))
+        longest = room * max(value for _, value in values) / most
+        drawn.append(text(max(zero + longest, edge) + 5, y + 9, words, fill=QUIET, size=10))
     drawn.append(line(zero, top - 4, zero, low, INK))
     return drawn, low
 
 
 def performance():
-    with open(DOCS / "history/shapes.csv", newline="") as table:
-        shapes = [
-            (row["shape"], [(SURVIVES, float(row["times_random"])), (MEMORY, float(row["memory_times_random"]))])
-            for row in csv.DictReader(table)
-        ]
     today, low = bars(
-        14, TOP, 230, "Today, by shape of the input", "seconds: mtrecover, and plain Rust (grey)", list(inputs()), 2
+        14, TOP, 190, "Today, by shape of the input",
+        "times plain Rust's time: files read, mapped (grey); line: once", list(inputs()), 1,
     )
     history, left_end = bars(
-        14, low + 62, 230, "2,000,000 updates, by stage", "times the plain Rust of the same day", list(stages()), 2
+        14, low + 62, 230, "2,000,000 updates, by stage", "times the plain Rust of the same day", list(stages())
     )
-    hostile, right_end = bars(
+    shapes, right_end = bars(
         422, TOP, 180, "Hostile shapes, beside random keys",
-        "for each byte: processor time, and memory (blue); line: bound", shapes, 1, 3,
+        "for each byte: processor time, and memory (blue); line: bound", list(hostile()), 3,
     )
     height = max(left_end, right_end) + 16
-    return picture(height, "Recovery beside plain Rust, by input and by stage; hostile shapes beside random keys", [*today, *history, *hostile])
+    return picture(height, "Recovery beside plain Rust, by input and by stage; hostile shapes beside random keys", [*today, *history, *shapes])
 
 
 def main():
