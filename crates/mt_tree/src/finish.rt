@@ -57,14 +57,15 @@ fn level_up(alloc: Global, nodes: Vec<Node>) -> Result<Vec<Node>, Memory>
     ensures fewer { IfOk result (λ upper. length upper.items < length nodes.items) }
     ensures some { IfOk result (λ upper. 1 ≤ length upper.items) }
 {
-    let mut upper = Vec::new(alloc);
     let mut left = nodes.len();
-    let mut children: Vec<Node> = Vec::new(alloc);
+    let mut upper = Vec::with_capacity(alloc, left / MOST_CHILDREN + 1)?;
+    let mut children: Vec<Node> = Vec::with_capacity(alloc, left.min(MOST_CHILDREN))?;
     for node in nodes {
         children.push(node)?;
         left -= 1;
         if closes(children.len(), left) {
-            let node = parent(alloc, mem::replace(&mut children, Vec::new(alloc)))?;
+            let next = Vec::with_capacity(alloc, left.min(MOST_CHILDREN))?;
+            let node = parent(alloc, mem::replace(&mut children, next))?;
             upper.push(node)?;
         }
     }

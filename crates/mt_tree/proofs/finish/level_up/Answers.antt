@@ -43,14 +43,14 @@ fewer_left left kids count up all new empty some e many pair fewer f g = by (cas
     by (inl k) = omega arith
     by (inr k) = let alone : left ≢ 1 = pair (omega arith) in let enough : 15 ≤ count = many (λ z. alone (omega arith)) in omega arith
 
-pub loop-node-preserved-in-Continue-branch-3 : goal.loop-node-preserved-in-Continue-branch-3
-loop-node-preserved-in-Continue-branch-3 c =
+pub loop-node-preserved-in-Continue-branch-6 : goal.loop-node-preserved-in-Continue-branch-6
+loop-node-preserved-in-Continue-branch-6 c =
     let h = level_height c.args.nodes.items in
     let given = ap (λ v. v.items) c.replace.ensures.value in
     let level = with_next h _ _ _ _ _ _ c.loop-node.invariant.level c.in-Some.ensures.steps.0 c.in_ok-push.ensures.items given in
     let next = into_iter_items c.next.new.self in
     let kids = c.replace.result.items in
-    let empty : c.replace.new.dest.items ≡ [] = ap (λ v. v.items) c.replace.ensures.after ∙ c.new.ensures.items in
+    let empty : c.replace.new.dest.items ≡ [] = ap (λ v. v.items) c.replace.ensures.after ∙ c.in_ok-next.ensures.items in
     let count : length kids ≡ length c.loop-node.children.items + 1 = ap (λ (z : List NodeView). length z) (given ∙ c.in_ok-push.ensures.items) ∙ length-append c.loop-node.children.items (c.in-Some.node ∷ []) in
     let left : c.loop-node.left ≡ suc (length next) = c.loop-node.invariant.left ∙ ap (λ (z : List NodeView). length z) c.in-Some.ensures.steps.0 in
     let node : c.in_ok-node.node ≡ parent_node kids = c.in_ok-node.ensures.value in
