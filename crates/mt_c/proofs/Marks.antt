@@ -1,5 +1,5 @@
 -- The encoding of a mark, in three pieces.
-use Rattle.std.proofs.Common.{◌≡◌, ℕ, List, [], ◌∷◌, ◌++◌, refl}
+use Rattle.std.proofs.Common.{◌≡◌, ℕ, [], ◌∷◌, ◌++◌, refl}
 use Rattle.byteorder.specs.Endian.{big_bytes}
 use Rattle.mt_words.specs.Built.{mark_of}
 use Rattle.mt_record.specs.Spelling.{spelling}

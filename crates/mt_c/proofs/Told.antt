@@ -1,4 +1,4 @@
--- Headers at the front of bytes, as C is told them.
+-- Headers at the front of bytes, in the numbers that C gets.
 use Rattle.std.proofs.Common.{◌≡◌, ◌∙◌, ℕ, ◌-◌, List, ◌++◌, length, ap, arith, length-append}
 use Rattle.mt_block.specs.declared.header.Header.{Header}
 use Rattle.mt_block.specs.Blocks.{IsHeader, header_bytes}
@@ -8,7 +8,7 @@ use Rattle.mt_record.specs.declared.part_text.PartHead.{PartHead}
 use Rattle.mt_record.specs.Parts.{IsPartHead, part_head_bytes}
 use Rattle.mt_c.specs.Fronts.{Tells, c_header, part_number, c_part_head, c_part_header}
 
--- the bytes that are not behind the front are those of the front
+-- the front has as many bytes as all without those behind it
 front_length : (bytes front after : List ℕ) → bytes ≡ front ++ after → length bytes - length after ≡ length front
 front_length bytes front after e = omega (arith, ap length e ∙ length-append front after)
 

@@ -18,8 +18,8 @@ use mt_recover::Store;
 
 /// Writes the key at which range `i` of `n` ranges of the store begins to the beginning of `out`, and its length to
 /// `count`. The ranges have all pairs, each the same number of them or one more. Range 0 begins at no bytes, and no other
-/// does. A key that cuts the store need not be in it. `ABSENT`: there are not so many ranges. `WRONG`: the place does not
-/// hold a store.
+/// does. A key that cuts the store need not be in it. `ABSENT`: `i` is `n` or more. `WRONG`: the place does not hold a
+/// store.
 #[unsafe(no_mangle)]
 pub extern "C" fn mtr_cut_key(
     store: &mut Place,

@@ -178,7 +178,7 @@ impl PartPieces {
         Ok(all)
     }
 
-    /// Returns where its checkpoint ends, as its footer says, if that can be true of so many entries.
+    /// Returns where its checkpoint ends, by its footer. None: it has none, or one that counts fewer entries than these.
     fn end(&self, entries: usize) -> Option<u64> {
         let footer = self.footer?;
         (entries <= footer.count as usize).then_some(footer.end)
