@@ -11,7 +11,7 @@ use std::sync::atomic::{AtomicU64, Ordering};
 use std::thread::Threads;
 
 /// The most times that a thread looks for the other.
-const TURNS: u32 = 50_000_000;
+const TURNS: u32 = 500_000_000;
 
 /// Whether the count reaches the number within `TURNS` looks.
 fn is_reached_in_time(count: &AtomicU64, number: u64) -> bool {
