@@ -1,8 +1,8 @@
 -- Each key lies in one piece, and so updates are dealt to pieces.
-use Rattle.std.proofs.Common.{◌≡◌, ◌≢◌, ◌∙◌, inl, inr, ℕ, zero, suc, ◌+◌, ◌<◌, ◌≤◌, true, false, not, List, [], ◌∷◌, ◌++◌, length, map, Option, Some, Ordering, refl, sym, ap, subst, cond, fold, append_assoc, arith, length-append, take, get_or}
+use Rattle.std.proofs.Common.{◌≡◌, ◌≢◌, ◌∙◌, inl, inr, ℕ, zero, suc, ◌+◌, ◌<◌, ◌≤◌, true, false, List, [], ◌∷◌, ◌++◌, length, map, Option, Some, refl, sym, ap, subst, cond, fold, append_assoc, arith, length-append, take, get_or}
 use Rattle.std.specs.Prelude.{slice_index_or, slice_set, filter, nat_lt, IsPermutation}
 use Rattle.std.specs.List.{range_with_len}
-use Rattle.std.specs.Ordering.{nat_cmp, is_lt}
+use Rattle.std.specs.Ordering.{nat_cmp}
 use Rattle.std.proofs.lemmas.Bool.{cases_order}
 use Rattle.std.proofs.lemmas.Bool.Decides.{nat_tests}
 use Rattle.std.proofs.lemmas.Cmp.{ranked}
@@ -33,13 +33,9 @@ use Rattle.mt_replay.proofs.FilterLemmas.{filter_every, filter_none}
 
 -- ---- a key and a cut
 
-opposite : (a b : ℕ) → a ≢ b → nat_lt b a ≡ not (is_lt (nat_cmp a b))
-opposite a b apart = let order = ranked a b (nat_cmp a b) refl in grind (arith, nat_tests)
-
--- slices that differ tell whether a key is at or after a cut
-pub slices_tell : (key cut : List ℕ) → AreBytes key → AreBytes cut → slice_in key ≢ slice_in cut → nat_lt (slice_in cut) (slice_in key) ≡ not (is_below key cut)
-slices_tell key cut p q apart =
-    opposite (slice_in key) (slice_in cut) apart ∙ ap (λ (o : Ordering). not (is_lt o)) (sym (by_slices key cut p q apart))
+-- slices that differ tell whether a key is below another
+pub slices_tell : (a b : List ℕ) → AreBytes a → AreBytes b → slice_in a ≢ slice_in b → nat_lt (slice_in a) (slice_in b) ≡ is_below a b
+slices_tell a b p q apart = let order = ranked (slice_in a) (slice_in b) (nat_cmp (slice_in a) (slice_in b)) refl in let is = by_slices a b p q apart in grind (arith, nat_tests)
 
 -- a key that is not below a cut is not below those before it
 pub none_above : (cuts : List (List ℕ)) (key : List ℕ) (m : ℕ) → AreRising cuts → m < length cuts → ((d : List ℕ) → is_below key (slice_index_or cuts m d) ≡ false)

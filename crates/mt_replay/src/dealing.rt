@@ -1,17 +1,18 @@
 //! Deals updates to the pieces of their keys, before anything is sorted.
-ghost use Rattle.std.specs.Prelude.{◌≡◌, ◌≤◌, ◌<◌, ◌+◌, ◌++◌, [], ◌∷◌, List, ℕ, true, false, not, IfOk, OnOk, length, map, filter, slice_index_or};
+ghost use Rattle.std.specs.Prelude.{◌≡◌, ◌≤◌, ◌<◌, ◌+◌, ◌++◌, [], ◌∷◌, List, ℕ, true, false, IfOk, OnOk, length, map, filter, slice_index_or};
 ghost use Rattle.mt_words.specs.declared.update.Update.{Update as UpdateValue};
-ghost use Rattle.mt_words.specs.Slices.{AreBytes, slice_in};
+ghost use Rattle.mt_words.specs.Slices.{slice_in};
 ghost use Rattle.mt_words.specs.Words.{AreRising};
 ghost use Rattle.mt_words.specs.Walks.{joined};
 ghost use Rattle.mt_words.specs.OneLog.{as_list};
 ghost use Rattle.mt_record.specs.Shares.{updates_of_share};
-ghost use Rattle.mt_replay.specs.Cuts.{AreCuts, is_below, in_piece};
+ghost use Rattle.mt_replay.specs.Cuts.{AreCuts, in_piece};
 ghost use Rattle.mt_replay.specs.Ranges.{dealt_by};
 ghost use Rattle.mt_replay.specs.Steps.Dealing.{extended};
 ghost use Rattle.mt_replay.specs.Survivors.{in_window};
 
 use crate::batch::Batch;
+use crate::sorted_updates::is_below_by;
 use crate::{Cuts, Window};
 use mt_record::{Lent, Share, Stream, Text};
 use mt_words::{Key, Memory, slice_of};
@@ -230,25 +231,11 @@ pub(crate) fn piece_of(cuts: &[Key], heads: &[u64], key: &[u8]) -> usize
     let mut high = cuts.len();
     while low < high {
         let middle = low + (high - low) / 2;
-        if is_at_or_after(key, head, &cuts[middle], heads[middle]) {
-            low = middle + 1;
-        } else {
+        if is_below_by(key, head, cuts[middle].as_bytes(), heads[middle]) {
             high = middle;
+        } else {
+            low = middle + 1;
         }
     }
     low
-}
-
-/// Returns whether a key is at or after a cut. It compares the whole keys only if both have one slice.
-fn is_at_or_after(key: &[u8], head: u64, cut: &Key, cut_head: u64) -> bool
-    requires head { head ≡ slice_in key.now }
-    requires bytes { AreBytes key.now }
-    requires cut { cut_head ≡ slice_in cut.now }
-    ensures { result ≡ not (is_below key.now cut.now) }
-{
-    let cut = cut.as_bytes();
-    if head != cut_head {
-        return head > cut_head;
-    }
-    key.cmp(cut).is_ge()
 }

@@ -12,7 +12,7 @@ ghost use Rattle.mt_replay.specs.Ranges.{dealt_by};
 use crate::auditor::clashes_of;
 use crate::clash::Clash;
 use crate::dealing::Range;
-use crate::parts::{add_parts, shared_in};
+use crate::parts::{longest_in, shared_in};
 use crate::replay::replay_sorted;
 use crate::sorting::sorted_texts;
 use crate::{Cuts, SortedUpdates};
@@ -155,7 +155,7 @@ pub fn replay_range<S: PairSink>(
 }
 
 /// Returns the texts of a range, whose updates lie in this piece, and of those entries that lie in it, in the order of
-/// their keys. Entries of parts that follow each other are merged. All others are sorted like updates of logs.
+/// their keys. The entries of the list that has most of them are merged. All others are sorted like updates of logs.
 /// Err: out of memory.
 fn texts_in<'a>(
     alloc: Global,
@@ -170,11 +170,6 @@ fn texts_in<'a>(
 {
     let depth = shared_in(cuts, piece);
     let mut texts = range.texts(alloc)?;
-    let mut parts = Vec::new(alloc);
-    let rise = add_parts(&mut parts, entries, cuts, piece)?;
-    if rise {
-        return sorted_texts(alloc, texts, depth, &parts);
-    }
-    add_parts(&mut texts, entries, cuts, piece)?;
-    sorted_texts(alloc, texts, depth, &[])
+    let part = longest_in(&mut texts, entries, cuts, piece)?;
+    sorted_texts(alloc, texts, depth, &part)
 }

@@ -11,8 +11,10 @@ ghost use Rattle.std.specs.Ordering.{nat_cmp};
 ghost use Rattle.std.specs.Cmp.Lexicographic.{slice_cmp};
 ghost use Rattle.mt_replay.specs.Cuts.{InKeyOrder};
 ghost use Rattle.mt_replay.specs.Steps.Numbers.{places, rest_of, rests, AreInOrder, BeginsWith, AreAlike};
+ghost use Rattle.mt_replay.specs.Steps.Merging.{updates_of};
 
 use crate::merging::merge;
+use crate::parts::Part;
 use mt_record::Text;
 use mt_words::{Memory, slice_of};
 use std::alloc::Global;
@@ -24,23 +26,22 @@ const ROUNDS: u32 = 8;
 /// Fewer texts than these are sorted by their whole keys.
 const FEW: usize = 16;
 
-/// Returns texts and entries in the order of their keys. The keys of the texts must have their first `depth` bytes in
-/// common. The entries must be in the order of their keys already: they are merged. Those of one key come in any order.
+/// Returns texts, and the updates of a part, if there is one, in the order of their keys. The keys of the texts must have
+/// their first `depth` bytes in common. A part is in order already: it is merged. Updates of one key come in any order.
 /// Err: out of memory.
 pub(crate) fn sorted_texts<'a>(
     alloc: Global,
     texts: Vec<Text<'a>>,
     depth: u32,
-    entries: &[Text<'a>],
+    part: &Option<Part<'a>>,
 ) -> Result<Vec<Text<'a>>, Memory>
-    requires alike { AreAlike depth texts.items }
-    requires in_order { InKeyOrder entries.now }
-    ensures same { IfOk result (λ sorted. IsPermutation (entries.now ++ texts.entry.items) sorted.items) }
+    requires { AreAlike depth texts.items }
+    ensures same { IfOk result (λ sorted. IsPermutation (updates_of part.now ++ texts.entry.items) sorted.items) }
     ensures in_order { IfOk result (λ sorted. InKeyOrder sorted.items) }
 {
     let bits = bits_for(texts.len());
     let numbers = sorted_numbers(alloc, &texts, bits, depth)?;
-    merge(alloc, &texts, &numbers, bits, entries)
+    merge(alloc, &texts, &numbers, bits, part)
 }
 
 /// Returns the number of bits of a place in a list of this length: 16 for all but long lists, so that 48 bits of a key

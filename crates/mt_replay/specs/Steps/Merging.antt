@@ -1,7 +1,17 @@
 -- Two lists of updates in the order of their keys that are merged.
-use Rattle.std.specs.Prelude.{◌≡◌, ℕ, false, List, [], ◌∷◌, ◌++◌, IsPermutation}
+use Rattle.std.specs.Prelude.{◌≡◌, ℕ, false, Option, Some, None, List, [], ◌∷◌, ◌++◌, IsPermutation}
 use Rattle.mt_words.specs.declared.update.Update.{Update}
 use Rattle.mt_replay.specs.Cuts.{is_below, InKeyOrder}
+use Rattle.mt_replay.specs.Steps.Numbers.{places, in_turn}
+
+-- the updates of a part, if there is one
+abbrev pub updates_of : Option (List Update) → List Update
+updates_of None = []
+updates_of (Some updates) = updates
+
+-- the updates at the places of numbers
+abbrev pub numbered : List Update → ℕ → Update → List ℕ → List Update
+numbered updates bits d numbers = in_turn updates d (places bits numbers)
 
 -- the first update, if there is one, is not below the key
 abbrev pub IsFrom : List ℕ → List Update → Type 0

@@ -40,7 +40,7 @@ pub fn replay_piece(
 /// Returns the clashes of the log updates in the window, in order: by key, then by version. Each list has updates of
 /// one log; the log and the number of the record are those of the update's stamp. Entries of checkpoints do not count.
 /// Err: out of memory.
-#[tactic(auto, using(crate::proofs::NumberLemmas::alike_none, crate::proofs::MergeLemmas::none_in_order))]
+#[tactic(auto, using(crate::proofs::NumberLemmas::alike_none))]
 pub fn clashes(alloc: Global, logs: &[Vec<Update>], window: Window) -> Result<Vec<Clash>, Memory>
     ensures { IfOk result (λ clashes.
         AreClashes (filter (is_logged_in window) (flat_map (λ updates. updates.items) logs.now)) clashes.items) }
@@ -50,6 +50,6 @@ pub fn clashes(alloc: Global, logs: &[Vec<Update>], window: Window) -> Result<Ve
         range.push(spell(alloc, updates, window, false)?)?;
     }
     let texts = range.texts(alloc)?;
-    let sorted = sorted_texts(alloc, texts, 0, &[])?;
+    let sorted = sorted_texts(alloc, texts, 0, &None)?;
     clashes_of(alloc, &sorted)
 }

@@ -1,23 +1,22 @@
 use Rattle.std.proofs.Common.{◌∙◌, ◌+◌, ◌-◌, ◌/◌, ◌<◌, ℕ, List, sym, ap, length, arith}
-use Rattle.std.proofs.lemmas.Bool.{not-true, not-false}
 use Rattle.std.proofs.lemmas.List.{get_or_read}
 use Rattle.mt_replay.specs.Cuts.{is_below}
 use Rattle.mt_replay.proofs.DealLemmas.{none_above, all_above, piece_at}
 use Rattle.mt_replay.proofs.dealing.piece_of.Goals as goal
 
-pub loop-low-preserved-then-is_at_or_after : goal.loop-low-preserved-then-is_at_or_after
-loop-low-preserved-then-is_at_or_after c =
+pub loop-low-preserved-then-is_below_by : goal.loop-low-preserved-then-is_below_by
+loop-low-preserved-then-is_below_by c =
     let cuts : List (List ℕ) = c.args.cuts.now in
     let key : List ℕ = c.args.key.now in
     let middle = c.loop-low.low + (c.loop-low.high - c.loop-low.low) / 2 in
     let short : middle < c.loop-low.high = omega (arith, c.loop-low-test.true) in
     let within : middle < length cuts = omega (arith, short, c.loop-low.invariant.within) in
-    let here = not-true (is_below key c.index-cuts-middle.result) (sym c.is_at_or_after.ensures ∙ c.if-is_at_or_after.true) in
+    let here = ap (is_below key) (sym c.as_bytes.ensures.value) ∙ sym c.is_below_by.ensures ∙ c.if-is_below_by.true in
     record {
-      rises = omega (arith, short);
-      within = c.loop-low.invariant.within;
-      before = none_above cuts key middle c.requires.rising within (λ d. ap (is_below key) (sym (get_or_read cuts middle c.index-cuts-middle.result within c.index-cuts-middle.is d)) ∙ here);
-      after = c.loop-low.invariant.after;
+      rises = omega arith;
+      within = omega (arith, within);
+      before = c.loop-low.invariant.before;
+      after = all_above cuts key middle c.requires.rising (λ d. ap (is_below key) (sym (get_or_read cuts middle c.index-cuts-middle.result within c.index-cuts-middle.is d)) ∙ here);
     }
 
 pub loop-low-preserved : goal.loop-low-preserved
@@ -27,12 +26,12 @@ loop-low-preserved c =
     let middle = c.loop-low.low + (c.loop-low.high - c.loop-low.low) / 2 in
     let short : middle < c.loop-low.high = omega (arith, c.loop-low-test.true) in
     let within : middle < length cuts = omega (arith, short, c.loop-low.invariant.within) in
-    let here = not-false (is_below key c.index-cuts-middle.result) (sym c.is_at_or_after.ensures ∙ c.if-is_at_or_after.false) in
+    let here = ap (is_below key) (sym c.as_bytes.ensures.value) ∙ sym c.is_below_by.ensures ∙ c.if-is_below_by.false in
     record {
-      rises = omega arith;
-      within = omega (arith, within);
-      before = c.loop-low.invariant.before;
-      after = all_above cuts key middle c.requires.rising (λ d. ap (is_below key) (sym (get_or_read cuts middle c.index-cuts-middle.result within c.index-cuts-middle.is d)) ∙ here);
+      rises = omega (arith, short);
+      within = c.loop-low.invariant.within;
+      before = none_above cuts key middle c.requires.rising within (λ d. ap (is_below key) (sym (get_or_read cuts middle c.index-cuts-middle.result within c.index-cuts-middle.is d)) ∙ here);
+      after = c.loop-low.invariant.after;
     }
 
 pub returns-clause-piece : goal.returns-clause-piece

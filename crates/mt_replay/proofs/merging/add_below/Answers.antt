@@ -1,43 +1,25 @@
-use Rattle.std.proofs.Common.{◌≡◌, ◌+◌, ◌++◌, ◌∷◌, [], true, ℕ, List, drop, sym, ap, subst, ◌∙◌, arith}
-use Rattle.std.proofs.lemmas.List.{drop_more, drop_all}
+use Rattle.std.proofs.Common.{◌≡◌, ◌<◌, ◌%◌, ◌^◌, ◌++◌, ◌∷◌, [], true, ℕ, List, length, get_or, sym, ap, subst, ◌∙◌}
+use Rattle.std.specs.Prelude.{All}
+use Rattle.std.proofs.lemmas.List.Elements.{All-tail}
 use Rattle.mt_words.specs.declared.update.Update.{Update}
 use Rattle.mt_replay.specs.Cuts.{is_below}
-use Rattle.mt_replay.specs.Steps.Merging.{IsFrom, IsMerging}
-use Rattle.mt_replay.proofs.MergeLemmas.{from_below}
+use Rattle.mt_replay.specs.Steps.Merging.{IsMerging, numbered}
+use Rattle.mt_replay.proofs.KeyOrder.{below_order}
+use Rattle.mt_replay.proofs.MergeLemmas.{from_second, next_numbered}
 use Rattle.mt_replay.proofs.merging.add_below.Goals as goal
 
-pub loop-at-preserved : goal.loop-at-preserved
-loop-at-preserved c =
-    let entries : List Update = c.args.entries.now in
-    let at = c.loop-at.at in
-    let rest : List Update = drop (at + 1) entries in
-    let entry : Update = c.index-entries-at.result in
-    let merged : List Update = c.loop-at.merged.items in
+pub loop-number-preserved : goal.loop-number-preserved
+loop-number-preserved c =
+    let split = c.in-Some.ensures.cases.0 in
+    let text : Update = c.index-texts-place_of.result in
+    let merged : List Update = c.loop-number.merged.items in
+    let within : List ℕ → Type 0 = All (λ (n : ℕ). n % 2 ^ c.args.bits < length c.args.texts.now) in
     record {
-      within = omega (arith, c.loop-at-test.true);
-      merged = λ first second later text of_key starts.
-          let below : is_below entry.key text.key ≡ true = (λ i. is_below (sym c.key.ensures.value i) (of_key i)) ∙ sym c.comes_before.ensures ∙ c.if-comes_before.true in
-          let item : drop at entries ≡ entry ∷ rest = drop_more entries at entry c.loop-at-test.true ∙ ap (λ (u : Update). u ∷ rest) (sym c.index-entries-at.is) in
-          let was = subst (λ (us : List Update). IsMerging first second merged us (text ∷ later)) item (c.loop-at.invariant.merged first second later text of_key starts) in
-          subst (λ (us : List Update). IsMerging first second us rest (text ∷ later)) (sym (c.in_ok-push.ensures.items ∙ ap (λ (u : Update). merged ++ u ∷ []) c.copy.ensures))
-          (from_below first second merged rest later entry text below was);
+      within = All-tail (λ (n : ℕ). n % 2 ^ c.args.bits < length c.args.texts.now) c.in-Some.number.now c.in-Some.after.now (subst within split c.loop-number.invariant.within);
+      merged = λ d first second later entry of_key starts.
+          let rest : List Update = numbered c.args.texts.now c.args.bits d c.in-Some.after.now in
+          let below : is_below text.key entry.key ≡ true = (λ i. is_below (sym c.key.ensures.value i) (of_key i)) ∙ sym c.comes_before.ensures ∙ c.if-not-comes_before.false in
+          let was = subst (IsMerging first second merged (entry ∷ later)) (next_numbered c.args.texts.now c.args.bits d c.loop-number.rest.now c.in-Some.number.now c.in-Some.after.now text split c.loop-number.invariant.within (c.index-texts-place_of.is ∙ ap (λ (k : ℕ). get_or c.args.texts.now k text) c.place_of.ensures.value)) (c.loop-number.invariant.merged d first second later entry of_key starts) in
+          subst (λ (us : List Update). IsMerging first second us (entry ∷ later) rest) (sym (c.in_ok-push.ensures.items ∙ ap (λ (u : Update). merged ++ u ∷ []) c.copy.ensures))
+          (from_second first second merged (entry ∷ later) rest text was (below_order.one_way text.key entry.key below));
     }
-
-pub returns-else-comes_before-clause-merged : goal.returns-else-comes_before-clause-merged
-returns-else-comes_before-clause-merged c = c.loop-at.invariant.merged
-
-pub returns-else-comes_before-clause-ends : goal.returns-else-comes_before-clause-ends
-returns-else-comes_before-clause-ends c =
-    let entries : List Update = c.args.entries.now in
-    let at = c.loop-at.at in
-    let entry : Update = c.index-entries-at.result in
-    let item : drop at entries ≡ entry ∷ drop (at + 1) entries = drop_more entries at entry c.loop-at-test.true ∙ ap (λ (u : Update). u ∷ drop (at + 1) entries) (sym c.index-entries-at.is) in
-    subst (IsFrom c.args.key.now) (sym item) (ap (λ (k : List ℕ). is_below k c.args.key.now) (sym c.key.ensures.value) ∙ sym c.comes_before.ensures ∙ c.if-comes_before.false)
-
-pub returns-clause-ends : goal.returns-clause-ends
-returns-clause-ends c = subst (IsFrom c.args.key.now) (sym (drop_all _ c.args.entries.now (omega arith))) tt
-
-pub returns-clause-merged : goal.returns-clause-merged
-returns-clause-merged c = λ first second later text of_key starts.
-    subst (λ (us : List Update). IsMerging first second c.loop-at.merged.items us (text ∷ later)) (drop_all c.loop-at.at c.args.entries.now (omega (arith, c.loop-at-test.false)) ∙ sym (drop_all _ c.args.entries.now (omega arith)))
-    (c.loop-at.invariant.merged first second later text of_key starts)

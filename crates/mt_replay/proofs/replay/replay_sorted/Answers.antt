@@ -11,7 +11,7 @@ add_pair-requires-clause-last g c =
     let end = c.end_of_key-end.result in
     let ends = c.end_of_key-end.ensures in
     let left = c.in_ok-columns.ensures in
-    let last = last_columns sorted at end ends.within.0 ends.within.1 ends.alike c.requires.in_order c.loop-at.invariant.start c.index-sorted-at.result c.index-sorted-at.is c.key.result.now c.key.ensures.value c.in_ok-columns.columns left.lawful left.exact in
+    let last = last_columns sorted at end ends.within.0 ends.within.1 ends.alike c.requires.in_order c.loop-at.invariant.start c.index-sorted-at.result c.index-sorted-at.is c.key-key.result.now c.key-key.ensures.value c.in_ok-columns.columns left.lawful left.exact in
     (take at sorted, take (end - at) (drop at sorted), c.loop-at.invariant.made, last)
 
 pub loop-at-preserved : goal.loop-at-preserved
@@ -21,7 +21,7 @@ loop-at-preserved g c =
     let end = c.end_of_key-end.result in
     let ends = c.end_of_key-end.ensures in
     let left = c.in_ok-columns.ensures in
-    let last = last_columns sorted at end ends.within.0 ends.within.1 ends.alike c.requires.in_order c.loop-at.invariant.start c.index-sorted-at.result c.index-sorted-at.is c.key.result.now c.key.ensures.value c.in_ok-columns.columns left.lawful left.exact in
+    let last = last_columns sorted at end ends.within.0 ends.within.1 ends.alike c.requires.in_order c.loop-at.invariant.start c.index-sorted-at.result c.index-sorted-at.is c.key-key.result.now c.key-key.ensures.value c.in_ok-columns.columns left.lawful left.exact in
     record {
       within = ends.within.1;
       start = next_start sorted at end ends.within.0 ends.within.1 ends.alike ends.ends;

@@ -6,6 +6,7 @@ use Rattle.mt_words.specs.declared.update.Update.{Update}
 use Rattle.mt_replay.specs.Cuts.{InKeyOrder}
 use Rattle.mt_record.specs.Steps.Texts.{update_in_text}
 use Rattle.mt_replay.specs.Steps.Numbers.{places, in_turn}
+use Rattle.mt_replay.specs.Steps.Merging.{updates_of}
 use Rattle.mt_replay.proofs.NumberLemmas.{places_within, in_turn_moved, in_turn_in_order}
 use Rattle.mt_replay.proofs.sorting.sorted_texts.Goals as goal
 
@@ -35,13 +36,13 @@ merge-requires-clause-sorted c = λ d.
 pub returns-clause-same : goal.returns-clause-same
 returns-clause-same c =
     let us : List Update = c.args.texts.items in
-    let entries : List Update = c.args.entries.now in
+    let all : List Update = updates_of c.args.part.now in
     let bits = c.bits_for-bits.result in
     let numbers : List ℕ = c.in_ok-numbers.numbers.items in
     let turn : List Update = in_turn us some (places bits numbers) in
     let turned : in_turn c.deref-2.result.now some (places bits c.deref-3.result.now) ≡ turn = λ i. in_turn (c.deref-2.ensures.value i) some (places bits (c.deref-3.ensures.value i)) in
-    let moved = IsPermutation-append_right entries us turn (in_turn_moved bits us some numbers (rw c.deref.ensures.value at c.in_ok-numbers.ensures.same)) in
-    IfOk-weaker c.merge.result _ _ (λ sorted are. IsPermutation-trans (entries ++ us) (entries ++ turn) sorted.items moved (subst (λ (vs : List Update). IsPermutation (entries ++ vs) sorted.items) turned (are some).same)) c.merge.ensures
+    let moved = IsPermutation-append_right all us turn (in_turn_moved bits us some numbers (rw c.deref.ensures.value at c.in_ok-numbers.ensures.same)) in
+    IfOk-weaker c.merge.result _ _ (λ sorted are. IsPermutation-trans (all ++ us) (all ++ turn) sorted.items moved (subst (λ (vs : List Update). IsPermutation (all ++ vs) sorted.items) turned (are some).same)) c.merge.ensures
 
 pub returns-clause-in_order : goal.returns-clause-in_order
 returns-clause-in_order c = IfOk-weaker c.merge.result _ _ (λ sorted are. (are some).in_order) c.merge.ensures
