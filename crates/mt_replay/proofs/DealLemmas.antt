@@ -1,11 +1,8 @@
 -- Each key lies in one piece, and so updates are dealt to pieces.
 use Rattle.std.proofs.Common.{◌≡◌, ◌≢◌, ◌∙◌, inl, inr, ℕ, zero, suc, ◌+◌, ◌<◌, ◌≤◌, true, false, List, [], ◌∷◌, ◌++◌, length, map, Option, Some, refl, sym, ap, subst, cond, fold, append_assoc, arith, length-append, take, get_or}
-use Rattle.std.specs.Prelude.{slice_index_or, slice_set, filter, nat_lt, IsPermutation}
+use Rattle.std.specs.Prelude.{slice_index_or, slice_set, filter, IsPermutation}
 use Rattle.std.specs.List.{range_with_len}
-use Rattle.std.specs.Ordering.{nat_cmp}
 use Rattle.std.proofs.lemmas.Bool.{cases_order}
-use Rattle.std.proofs.lemmas.Bool.Decides.{nat_tests}
-use Rattle.std.proofs.lemmas.Cmp.{ranked}
 use Rattle.std.proofs.lemmas.Option.{slice_get_past, slice_get-get_or}
 use Rattle.std.proofs.lemmas.List.{append-nil, same_lists, get_or_default, length-set, get_or-set_same, get_or-set_other}
 use Rattle.std.proofs.lemmas.List.FromFn.{length-map-range_with_len, get_or-map-range_with_len, map-range_with_len_more}
@@ -13,10 +10,8 @@ use Rattle.std.proofs.lemmas.List.Elements.{filter-append, All-weaker, filter_pa
 use Rattle.std.proofs.lemmas.List.Sorted.{IsPermutation-append, IsPermutation-trans, IsPermutation-refl}
 use Rattle.std.proofs.lemmas.Grind.{common_steps}
 use Rattle.mt_words.specs.declared.update.Update.{Update}
-use Rattle.mt_words.specs.Slices.{AreBytes, slice_in}
 use Rattle.mt_words.specs.Words.{AreRising}
 use Rattle.mt_words.specs.Walks.{joined}
-use Rattle.mt_words.proofs.SliceLemmas.{by_slices}
 use Rattle.mt_words.specs.OneLog.{as_list}
 use Rattle.mt_replay.specs.declared.window.Window.{Window}
 use Rattle.mt_replay.specs.Survivors.{in_window}
@@ -32,10 +27,6 @@ use Rattle.mt_replay.proofs.BatchLemmas.{joined_step}
 use Rattle.mt_replay.proofs.FilterLemmas.{filter_every, filter_none}
 
 -- ---- a key and a cut
-
--- slices that differ tell whether a key is below another
-pub slices_tell : (a b : List ℕ) → AreBytes a → AreBytes b → slice_in a ≢ slice_in b → nat_lt (slice_in a) (slice_in b) ≡ is_below a b
-slices_tell a b p q apart = let order = ranked (slice_in a) (slice_in b) (nat_cmp (slice_in a) (slice_in b)) refl in let is = by_slices a b p q apart in grind (arith, nat_tests)
 
 -- a key that is not below a cut is not below those before it
 pub none_above : (cuts : List (List ℕ)) (key : List ℕ) (m : ℕ) → AreRising cuts → m < length cuts → ((d : List ℕ) → is_below key (slice_index_or cuts m d) ≡ false)

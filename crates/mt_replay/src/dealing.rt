@@ -12,9 +12,8 @@ ghost use Rattle.mt_replay.specs.Steps.Dealing.{extended};
 ghost use Rattle.mt_replay.specs.Survivors.{in_window};
 
 use crate::batch::Batch;
-use crate::sorted_updates::is_below_by;
 use crate::{Cuts, Window};
-use mt_record::{Lent, Share, Stream, Text};
+use mt_record::{Lent, Share, Stream, Text, is_below_by};
 use mt_words::{Key, Memory, slice_of};
 use std::alloc::Global;
 use std::marker::Model;

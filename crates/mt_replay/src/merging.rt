@@ -5,9 +5,8 @@ ghost use Rattle.mt_replay.specs.Cuts.{InKeyOrder};
 ghost use Rattle.mt_replay.specs.Steps.Merging.{IsFrom, IsMerging, IsMerged, numbered, updates_of};
 
 use crate::parts::{Part, len_of};
-use crate::sorted_updates::comes_before;
 use crate::sorting::place_of;
-use mt_record::Text;
+use mt_record::{Text, comes_before};
 use mt_words::Memory;
 use std::alloc::Global;
 

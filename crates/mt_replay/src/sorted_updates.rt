@@ -2,14 +2,13 @@
 ghost use Rattle.std.specs.Prelude.{◌≡◌, ◌≤◌, ◌<◌, true, false, IfOk, IsPermutation, List, length, map, slice_index_or};
 ghost use Rattle.std.specs.List.Sorted.{IsPartitionPoint};
 ghost use Rattle.mt_words.specs.declared.update.Update.{Update as UpdateValue};
-ghost use Rattle.mt_words.specs.Slices.{slice_in};
 ghost use Rattle.mt_words.specs.Words.{AreRising};
 ghost use Rattle.mt_replay.specs.Survivors.{wholes};
 ghost use Rattle.mt_replay.specs.Cuts.{is_below, InKeyOrder};
 
 use crate::sorting::sorted_texts;
-use mt_record::{Bodies, KeptEntries, Lent, Stream, Text};
-use mt_words::{Memory, slice_of};
+use mt_record::{Bodies, KeptEntries, Lent, Stream, Text, comes_before};
+use mt_words::Memory;
 use std::alloc::Global;
 use std::marker::Model;
 
@@ -104,28 +103,6 @@ impl SortedUpdates {
         }
         low
     }
-}
-
-/// Returns whether the first key is below the second.
-#[inline(always)]
-pub(crate) fn comes_before(first: &[u8], second: &[u8]) -> bool
-    ensures { result ≡ is_below first.now second.now }
-{
-    is_below_by(first, slice_of(first), second, slice_of(second))
-}
-
-/// Returns whether the first key is below the second. Their slices are `head` and `other`. It compares the whole keys only
-/// if both have one slice.
-#[inline(always)]
-pub(crate) fn is_below_by(first: &[u8], head: u64, second: &[u8], other: u64) -> bool
-    requires head { head ≡ slice_in first.now }
-    requires other { other ≡ slice_in second.now }
-    ensures { result ≡ is_below first.now second.now }
-{
-    if head != other {
-        return head < other;
-    }
-    first.cmp(second).is_lt()
 }
 
 /// Copies these updates in the order of their keys. Err: out of memory.

@@ -9,6 +9,7 @@ use crate::body::lent::Lent;
 use crate::body::{fields_of, spelled};
 use crate::kept::Entries;
 use crate::kept::byte_strings::ByteStrings;
+use crate::key_order::comes_before;
 use mt_words::{Code, Memory, Origin};
 use std::alloc::Global;
 use std::marker::Model;
@@ -84,7 +85,7 @@ impl KeptEntries {
         ensures { IsTrue result ↔ AreRising (map (λ entry. entry.key) self.now ++ key.now ∷ []) }
     {
         let count = self.len();
-        self.rising && (count == 0 || self.key(count - 1) < key)
+        self.rising && (count == 0 || comes_before(self.key(count - 1), key))
     }
 }
 

@@ -1,6 +1,4 @@
-use Rattle.std.proofs.Common.{◌≡◌, ◌∙◌, ◌-◌, ◌<◌, ℕ, List, [], ◌∷◌, length, map, get_or, refl, sym, ap, subst, arith}
-use Rattle.std.specs.Ordering.{nat_cmp, is_lt, is_some_and}
-use Rattle.std.specs.Cmp.Lexicographic.{slice_cmp, lists_agrees}
+use Rattle.std.proofs.Common.{◌≡◌, ◌∙◌, ◌-◌, ◌<◌, ℕ, List, [], ◌∷◌, length, map, get_or, sym, ap, subst, arith}
 use Rattle.std.proofs.lemmas.Bool.{false≢true}
 use Rattle.std.proofs.lemmas.List.{length-map}
 use Rattle.mt_words.specs.declared.record.Change.{Change}
@@ -21,8 +19,7 @@ returns-else-count-eq0 c =
     let place : c.len-count.result - 1 ≡ length (keys_of entries) - 1 = omega (arith, count, c.len-count.ensures) in
     let at = key_at entries (c.len-count.result - 1) last (omega (arith, some, c.len-count.ensures)) c.key.ensures ∙ ap (λ (n : ℕ). get_or (keys_of entries) n last) place in
     let rise = subst (λ (es : List Change). AreRising (keys_of es)) c.self.view_is (c.self.invariant.told.0 c.if-self.true) in
-    let same : c.lt.result ≡ is_lt (slice_cmp nat_cmp last c.args.key.now) = c.lt.ensures ∙ ap (is_some_and is_lt) (lists_agrees (λ x y. refl) last c.args.key.now) in
-    rw same (rise_to (keys_of entries) last c.args.key.now (omega (arith, some, count)) at rise)
+    rw c.comes_before.ensures (rise_to (keys_of entries) last c.args.key.now (omega (arith, some, count)) at rise)
 
 pub returns-else-self : goal.returns-else-self
 returns-else-self c = (
