@@ -116,15 +116,14 @@ pub(crate) fn in_order(alloc: Global, updates: &Stream) -> Result<SortedUpdates,
     gather(alloc, &sorted)
 }
 
-/// Copies the bodies of these texts, in order. Err: out of memory.
+/// Copies these texts, in order. Err: out of memory.
 fn gather(alloc: Global, texts: &[Text<'_>]) -> Result<SortedUpdates, Memory>
     requires { InKeyOrder texts.now }
     ensures { IfOk result (λ sorted. sorted ≡ texts.now) }
 {
-    let mut bodies = Bodies::with_capacity(alloc, texts.len(), 0)?;
+    let mut bodies = Bodies::new(alloc);
     for text in texts {
-        let update = text.lent();
-        bodies.push(update.origin(), update.body())?;
+        bodies.push(text)?;
     }
     let held = Held::Sorted(bodies);
     Ok(SortedUpdates { held })

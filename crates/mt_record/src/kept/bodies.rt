@@ -1,12 +1,10 @@
 //! A list of updates as texts.
-ghost use Rattle.std.specs.Prelude.{◌≡◌, ◌<◌, ◌++◌, [], ◌∷◌, IfOk, OnOk, OnErr, length, slice_index_or};
+ghost use Rattle.std.specs.Prelude.{◌≡◌, ◌<◌, ◌++◌, [], ◌∷◌, OnOk, OnErr, length, slice_index_or};
 ghost use Rattle.mt_words.specs.declared.update.Update.{Update as UpdateValue};
-ghost use Rattle.mt_record.specs.Decoding.{IsChangeBody, update_in};
-ghost use Rattle.mt_record.specs.Steps.Texts.{IsUpdateText, update_in_text};
 
 use crate::kept::byte_strings::ByteStrings;
-use crate::kept::text::{SHORT, Text, long, short};
-use mt_words::{Memory, Origin};
+use crate::kept::text::Text;
+use mt_words::Memory;
 use std::alloc::Global;
 use std::marker::Model;
 
@@ -30,15 +28,13 @@ impl Model for Bodies {
 }
 
 impl Bodies {
-    /// Creates an empty list with room for `updates` updates whose bodies have `bytes` bytes in all.
-    /// Err: out of memory.
-    pub fn with_capacity(alloc: Global, updates: usize, bytes: usize) -> Result<Bodies, Memory>
-        ensures { IfOk result (λ bodies. bodies ≡ []) }
+    /// Creates an empty list.
+    pub fn new(alloc: Global) -> Bodies
+        ensures { result ≡ [] }
     {
-        let size = bytes.saturating_add(updates.saturating_mul(SHORT));
-        Ok(Bodies {
-            texts: ByteStrings::with_capacity(alloc, updates, size)?,
-        })
+        Bodies {
+            texts: ByteStrings::new(alloc),
+        }
     }
 
     /// Returns the number of updates.
@@ -56,29 +52,12 @@ impl Bodies {
         Text::of_text(self.texts.get(at))
     }
 
-    /// Appends the update with this origin and this body. Err: out of memory; nothing is appended.
-    pub fn push(&mut self, origin: Origin, body: &[u8]) -> Result<(), Memory>
-        requires { IsChangeBody body.now }
-        ensures ok { OnOk result (self.new ≡ self.old ++ update_in origin body.now ∷ []) }
+    /// Appends a copy of a text. Err: out of memory; nothing is appended.
+    pub fn push(&mut self, text: &Text<'_>) -> Result<(), Memory>
+        ensures ok { OnOk result (self.new ≡ self.old ++ text.now ∷ []) }
         ensures err { OnErr result (self.new ≡ self.old) }
     {
-        match origin {
-            Origin::Checkpoint => self.push_text(&[0], body),
-            Origin::Log { log, record } => {
-                if log > usize::from(u16::MAX) || record > u64::from(u32::MAX) {
-                    return self.push_text(&long(log as u64, record), body);
-                }
-                self.push_text(&short(log as u16, record as u32), body)
-            }
-        }
-    }
-
-    /// Appends a text that is given as its origin and its body. Err: out of memory; nothing is appended.
-    fn push_text(&mut self, origin: &[u8], body: &[u8]) -> Result<(), Memory>
-        requires { IsUpdateText (origin.now ++ body.now) }
-        ensures ok { OnOk result (self.new ≡ self.old ++ update_in_text (origin.now ++ body.now) ∷ []) }
-        ensures err { OnErr result (self.new ≡ self.old) }
-    {
+        let (origin, body) = text.parts();
         self.texts.push_joined(origin, body)
     }
 }

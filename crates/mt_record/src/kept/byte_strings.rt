@@ -48,18 +48,6 @@ impl ByteStrings {
         }
     }
 
-    /// Creates an empty list. Its first block has room for its part of `texts` texts of `bytes` bytes in all.
-    /// Err: out of memory.
-    pub fn with_capacity(alloc: Global, texts: usize, bytes: usize) -> Result<ByteStrings, Memory>
-        ensures { IfOk result (λ texts. texts ≡ []) }
-    {
-        let blocks = texts / TEXTS + 1;
-        Ok(ByteStrings {
-            full: Vec::new(alloc),
-            last: Block::with_capacity(alloc, texts.min(TEXTS), bytes / blocks)?,
-        })
-    }
-
     /// Returns an empty list with the same allocator.
     pub(crate) fn none(&self) -> ByteStrings
         ensures { result ≡ [] }

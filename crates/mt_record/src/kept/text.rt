@@ -3,7 +3,7 @@
 //!     entry                                  0 | body
 //!     record 5 of log 3, as most             1 | 0003 | 00000005 | body
 //!     one whose log or number is greater     2 | log, 8 bytes | record, 8 bytes | body
-ghost use Rattle.std.specs.Prelude.{◌≡◌};
+ghost use Rattle.std.specs.Prelude.{◌≡◌, ◌++◌};
 ghost use Rattle.mt_words.specs.declared.update.Origin.TheVariants.{Checkpoint};
 ghost use Rattle.mt_words.specs.Limits.{widest};
 ghost use Rattle.mt_words.specs.Words.{IsKey};
@@ -15,7 +15,7 @@ use mt_words::Origin;
 use std::marker::Model;
 
 /// The number of bytes of the origin of most updates: a tag, a log below 2^16 and a record below 2^32.
-pub(crate) const SHORT: usize = 7;
+const SHORT: usize = 7;
 
 /// The number of bytes of the origin of any log update: a tag, a log and a record.
 const LONG: usize = 17;
@@ -70,6 +70,17 @@ impl<'a> Text<'a> {
             bytes: self.bytes,
             is_entry: self.is_entry,
         }
+    }
+
+    /// Returns the text as its origin, or nothing if its bytes have it already, and its bytes.
+    pub(crate) fn parts(&self) -> (&[u8], &'a [u8])
+        ensures text { IsUpdateText (result.0.now ++ result.1.now) }
+        ensures says { update_in_text (result.0.now ++ result.1.now) ≡ self.now }
+    {
+        if self.is_entry {
+            return (&[0], self.bytes);
+        }
+        (&[], self.bytes)
     }
 
     /// Returns the update.
