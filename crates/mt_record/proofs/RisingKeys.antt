@@ -1,15 +1,20 @@
 -- Keys of entries, and keys that strictly rise.
-use Rattle.std.proofs.Common.{◌≡◌, ◌∙◌, ◌↔◌, ℕ, suc, ◌-◌, ◌<◌, IsTrue, List, [], ◌∷◌, ◌++◌, length, map, get_or, refl, sym, ap, subst, arith}
+use Rattle.std.proofs.Common.{◌≡◌, ◌≢◌, ◌∙◌, ◌↔◌, ℕ, suc, ◌-◌, ◌<◌, true, IsTrue, List, [], ◌∷◌, ◌++◌, length, map, get_or, refl, sym, ap, subst, arith}
+use Rattle.std.specs.Prelude.{nat_lt}
 use Rattle.std.specs.List.{AllByRecursion}
 use Rattle.std.specs.Ordering.{nat_cmp, is_lt}
 use Rattle.std.specs.declared.cmp.Ordering.{Ordering}
 use Rattle.std.specs.declared.cmp.Ordering.TheVariants.{Less, Equal, Greater}
 use Rattle.std.specs.Cmp.Lexicographic.{slice_cmp}
-use Rattle.std.proofs.lemmas.List.{get_or-map}
-use Rattle.std.proofs.lemmas.Cmp.{nat_list_cmp_total}
+use Rattle.std.proofs.lemmas.Bool.Decides.{nat_tests}
+use Rattle.std.proofs.lemmas.List.{get_or-map, get_or_default, length-append}
+use Rattle.std.proofs.lemmas.Cmp.{nat_list_cmp_total, ranked}
 use Rattle.mt_words.specs.declared.record.Change.{Change}
 use Rattle.mt_words.specs.declared.update.Kind.TheVariants.{Remove}
+use Rattle.mt_words.specs.Slices.{AreBytes, slice_in}
 use Rattle.mt_words.specs.Words.{IsBelow, AreRising}
+use Rattle.mt_words.proofs.SliceLemmas.{by_slices}
+use Rattle.mt_record.specs.Steps.Kept.{IsLastSlice}
 
 abbrev pub AreAbove : List ℕ → List (List ℕ) → Type 0
 AreAbove x xs = AllByRecursion (IsBelow x) xs
@@ -59,6 +64,30 @@ above_last (k ∷ l ∷ ks) last key some at rise = above_last (l ∷ ks) last k
 -- rising keys rise with one more key exactly if it is above the last of them
 pub rise_to : (keys : List (List ℕ)) (last key : List ℕ) → 0 < length keys → last ≡ get_or keys (length keys - 1) last → AreRising keys → IsBelow last key ↔ AreRising (keys ++ key ∷ [])
 rise_to keys last key some at rise = (rise_push keys last key some at rise, above_last keys last key some at)
+
+-- slices that differ tell whether a key is below another
+pub slices_tell : (a b : List ℕ) → AreBytes a → AreBytes b → slice_in a ≢ slice_in b → nat_lt (slice_in a) (slice_in b) ≡ is_lt (slice_cmp nat_cmp a b)
+slices_tell a b p q apart = let order = ranked (slice_in a) (slice_in b) (nat_cmp (slice_in a) (slice_in b)) refl in let is = by_slices a b p q apart in grind (arith, nat_tests)
+
+-- rising keys rise with one more key if its slice is above that of the last of them
+pub rise_by_slice : (keys : List (List ℕ)) (slice : ℕ) (key : List ℕ) → AreRising keys → IsLastSlice keys slice → AreBytes key → slice < slice_in key → AreRising (keys ++ key ∷ [])
+rise_by_slice [] slice key rise told bytes above = (tt, tt)
+rise_by_slice (k ∷ ks) slice key rise told bytes above =
+    let last : List ℕ = get_or (k ∷ ks) (length (k ∷ ks) - 1) [] in
+    let are = told (omega arith) in
+    let apart : slice_in last ≢ slice_in key = λ same. omega (arith, are.0, same, above) in
+    let less : nat_lt (slice_in last) (slice_in key) ≡ true = let is = are.0 in grind (arith, nat_tests) in
+    rise_push (k ∷ ks) last key (omega arith) (get_or_default (k ∷ ks) (length (k ∷ ks) - 1) [] last (omega arith)) rise (sym (slices_tell last key are.1 bytes apart) ∙ less)
+
+last_pushed : (keys : List (List ℕ)) (key : List ℕ) → get_or (keys ++ key ∷ []) (length (keys ++ key ∷ []) - 1) [] ≡ key
+last_pushed [] key = refl
+last_pushed (k ∷ ks) key =
+    let e : length (k ∷ ks ++ key ∷ []) - 1 ≡ suc (length (ks ++ key ∷ []) - 1) = omega (arith, length-append ks (key ∷ [])) in
+    ap (λ (n : ℕ). get_or (k ∷ ks ++ key ∷ []) n []) e ∙ last_pushed ks key
+
+-- after one more key, the slice of the last one is its slice
+pub slice_pushed : (keys : List (List ℕ)) (key : List ℕ) (slice : ℕ) → slice ≡ slice_in key → AreBytes key → IsLastSlice (keys ++ key ∷ []) slice
+slice_pushed keys key slice is bytes some = subst (λ (k : List ℕ). (slice ≡ slice_in k) × AreBytes k) (sym (last_pushed keys key)) (is, bytes)
 
 -- the key of an entry is the key at its position in the list of all keys
 pub key_at : (entries : List Change) (n : ℕ) (key : List ℕ) → n < length entries → ((d : Change) → key ≡ (get_or entries n d).key) → key ≡ get_or (map (λ (entry : Change). entry.key) entries) n key

@@ -2,6 +2,7 @@
 ghost use Rattle.std.specs.Prelude.{◌≡◌, ◌↔◌, ◌<◌, ◌++◌, [], ◌∷◌, length, map, slice_index_or, IsTrue};
 ghost use Rattle.mt_words.specs.declared.record.Change.{Change};
 ghost use Rattle.mt_words.specs.declared.update.Origin.TheVariants as origins;
+ghost use Rattle.mt_words.specs.Slices.{slice_in};
 ghost use Rattle.mt_words.specs.Words.{AreRising};
 ghost use Rattle.mt_words.specs.Updates.{update_at};
 
@@ -9,8 +10,8 @@ use crate::body::lent::Lent;
 use crate::body::{fields_of, spelled};
 use crate::kept::Entries;
 use crate::kept::byte_strings::ByteStrings;
-use crate::key_order::comes_before;
-use mt_words::{Code, Memory, Origin};
+use crate::key_order::is_below_by;
+use mt_words::{Code, Memory, Origin, slice_of};
 use std::alloc::Global;
 use std::marker::Model;
 
@@ -24,6 +25,8 @@ pub struct KeptEntries {
     bodies: ByteStrings,
     /// Whether the keys strictly rise.
     rising: bool,
+    /// The slice of the last key, if there is one.
+    last: u64,
 }
 
 impl Model for KeptEntries {
@@ -36,7 +39,7 @@ impl Model for KeptEntries {
 
     ghost view = { λ e. map change_in e.bodies };
 
-    ghost invariant = { λ e. AreKeptEntries e.bodies e.rising };
+    ghost invariant = { λ e. AreKeptEntries e.bodies e.rising e.last };
 }
 
 impl KeptEntries {
@@ -47,6 +50,7 @@ impl KeptEntries {
         KeptEntries {
             bodies: ByteStrings::new(alloc),
             rising: true,
+            last: 0,
         }
     }
 
@@ -80,12 +84,20 @@ impl KeptEntries {
         self.rising
     }
 
-    /// Returns whether the keys strictly rise, with this one after them.
-    fn is_rising_to(&self, key: &[u8]) -> bool
+    /// Returns whether the keys strictly rise, with this one after them, whose slice is `head`.
+    fn is_rising_to(&self, key: &[u8], head: u64) -> bool
+        requires { head ≡ slice_in key.now }
         ensures { IsTrue result ↔ AreRising (map (λ entry. entry.key) self.now ++ key.now ∷ []) }
     {
+        if !self.rising {
+            return false;
+        }
+        // Most keys are above the last one by their slices alone.
+        if self.last < head {
+            return true;
+        }
         let count = self.len();
-        self.rising && (count == 0 || comes_before(self.key(count - 1), key))
+        count == 0 || is_below_by(self.key(count - 1), self.last, key, head)
     }
 }
 
@@ -93,9 +105,12 @@ impl Entries for KeptEntries {
     ghost listed = { λ entries. entries };
 
     fn put_entry(&mut self, fields: &[u8]) -> Result<(), Memory> {
-        let rising = self.is_rising_to(fields_of(fields).key);
+        let key = fields_of(fields).key;
+        let head = slice_of(key);
+        let rising = self.is_rising_to(key, head);
         self.bodies.push_joined(BEFORE_FIELDS, fields)?;
         self.rising = rising;
+        self.last = head;
         Ok(())
     }
 

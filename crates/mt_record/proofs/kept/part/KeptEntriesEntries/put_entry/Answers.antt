@@ -1,11 +1,14 @@
-use Rattle.std.proofs.Common.{◌↔◌, IsTrue, List, ℕ, subst, sym}
+use Rattle.std.proofs.Common.{◌↔◌, IsTrue, List, ℕ, map, subst, sym}
 use Rattle.std.proofs.lemmas.List.Elements.{All-push}
 use Rattle.std.specs.Prelude.{All}
+use Rattle.mt_words.specs.declared.record.Change.{Change}
 use Rattle.mt_words.specs.Limits.{widest_format}
 use Rattle.mt_words.specs.Words.{AreRising}
 use Rattle.mt_record.specs.Decoding.{IsEntryBody}
+use Rattle.mt_record.specs.Steps.Kept.{IsLastSlice}
 use Rattle.mt_record.proofs.EntryTexts.{entry_fits}
 use Rattle.mt_record.proofs.KeptBodies.{fields_say, entry_more, key_more}
+use Rattle.mt_record.proofs.RisingKeys.{slice_pushed}
 use Rattle.mt_record.proofs.kept.part.KeptEntriesEntries.put_entry.Goals as goal
 
 pub fields_of-requires : goal.fields_of-requires
@@ -21,6 +24,7 @@ invariant_of-self-2 c =
     record {
       lawful = subst (All IsEntryBody) (sym c.in_ok-push_joined.ensures.ok) (All-push IsEntryBody c.self.inside.bodies _ c.self.invariant.lawful says.1);
       told = subst (λ (keys : List (List ℕ)). IsTrue c.is_rising_to-rising.result ↔ AreRising keys) keys c.is_rising_to-rising.ensures;
+      slice = subst (λ (keys : List (List ℕ)). IsLastSlice keys c.slice_of-head.result) keys (slice_pushed (map (λ (entry : Change). entry.key) c.args.self.now) c.fields_of.result.key.now c.slice_of-head.result c.slice_of-head.ensures.value c.slice_of-head.ensures.bytes);
     }
 
 pub returns-clause-ok : goal.returns-clause-ok
