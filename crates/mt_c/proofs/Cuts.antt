@@ -3,29 +3,19 @@ use Rattle.std.proofs.Common.{◌≡◌, ◌≢◌, ℕ, zero, suc, ◌-◌, ◌
 use Rattle.std.specs.Prelude.{not}
 use Rattle.std.specs.List.{AllByRecursion}
 use Rattle.std.specs.Ordering.{nat_cmp, is_lt, ordering_reverse}
-use Rattle.std.specs.Cmp.Lexicographic.{slice_cmp, nat_list_cmp_total}
+use Rattle.std.specs.Cmp.Lexicographic.{slice_cmp}
 use Rattle.std.specs.declared.cmp.Ordering.{Ordering}
 use Rattle.std.specs.declared.cmp.Ordering.TheVariants.{Less, Equal, Greater}
 use Rattle.std.proofs.lemmas.List.Elements.{filter-append}
 use Rattle.std.proofs.lemmas.Cmp.{nat_cmp_total, ranked}
 use Rattle.mt_words.specs.Words.{IsBelow}
+use Rattle.mt_words.proofs.KeyOrder.{below_trans, not_both}
 use Rattle.mt_words.specs.Walks.{Pair, KeysRise}
 use Rattle.mt_tree.specs.Range.{is_from, from}
 use Rattle.mt_tree.specs.Trees.{IsCount}
 use Rattle.mt_c.specs.Cuts.{is_until, until, key_at, pairs_before, BeginsRange}
 
 -- ---- order of keys
-is_less : (o : Ordering) → is_lt o ≡ true → o ≡ Less
-is_less Less e = refl
-is_less Equal e = cc
-is_less Greater e = cc
-
-below_trans : (a b c : List ℕ) → IsBelow a b → IsBelow b c → IsBelow a c
-below_trans a b c h k = ap is_lt (nat_list_cmp_total.trans a b c (is_less (slice_cmp nat_cmp a b) h) (is_less (slice_cmp nat_cmp b c) k))
-
-not_both : (a b : List ℕ) → IsBelow a b → ¬ IsBelow b a
-not_both a b h k = let g : Less ≡ Greater = sym (is_less _ h) ∙ nat_list_cmp_total.antisymm a b ∙ ap ordering_reverse (is_less _ k) in cc
-
 is_not : (b : Bool) → (b ≡ true → ⊥) → b ≡ false
 is_not true h = absurd (h refl)
 is_not false h = refl

@@ -12,6 +12,7 @@ use Rattle.std.specs.Cmp.Lexicographic.{slice_cmp, nat_list_cmp_total}
 use Rattle.std.specs.declared.cmp.Ordering.{Ordering}
 use Rattle.std.specs.declared.cmp.Ordering.TheVariants.{Less, Equal, Greater}
 use Rattle.mt_words.specs.Words.{IsBelow}
+use Rattle.mt_words.proofs.KeyOrder.{below_trans, not_both, not_itself, never_below}
 use Rattle.mt_words.specs.Walks.{Pair, KeysRise}
 use Rattle.mt_tree.specs.Range.{is_from, from}
 use Rattle.mt_cli.specs.declared.request.Range.{Range}
@@ -20,14 +21,6 @@ use Rattle.mt_cli.specs.declared.ranges.Rest.{Rest}
 use Rattle.mt_cli.specs.Steps.Showing.{HaveShown, front}
 
 -- ---- order of keys
-is_less : (o : Ordering) → is_lt o ≡ true → o ≡ Less
-is_less Less e = refl
-is_less Equal e = cc
-is_less Greater e = cc
-
-below_trans : (a b c : List ℕ) → IsBelow a b → IsBelow b c → IsBelow a c
-below_trans a b c h k = ap is_lt (nat_list_cmp_total.trans a b c (is_less (slice_cmp nat_cmp a b) h) (is_less (slice_cmp nat_cmp b c) k))
-
 -- what is below a key that is not above another one is below the other one
 below_not_above : (a b c : List ℕ) → IsBelow a b → ¬ IsBelow c b → IsBelow a c
 below_not_above a b c h k = by (slice_cmp nat_cmp b c) refl
@@ -36,16 +29,6 @@ below_not_above a b c h k = by (slice_cmp nat_cmp b c) refl
     by Less e = below_trans a b c h (ap is_lt e)
     by Equal e = ap is_lt (nat_list_cmp_total.antisymm a c ∙ ap ordering_reverse (sym (nat_list_cmp_total.congr b c a e)) ∙ sym (nat_list_cmp_total.antisymm a b)) ∙ h
     by Greater e = absurd (k (ap is_lt (nat_list_cmp_total.antisymm c b ∙ ap ordering_reverse e)))
-
-pub not_both : (a b : List ℕ) → IsBelow a b → ¬ IsBelow b a
-not_both a b h k = let g : Less ≡ Greater = sym (is_less _ h) ∙ nat_list_cmp_total.antisymm a b ∙ ap ordering_reverse (is_less _ k) in cc
-
-pub never_itself : (key : List ℕ) → ¬ IsBelow key key
-never_itself key e = not_both key key e e
-
-never_below : (key : List ℕ) → ¬ IsBelow key []
-never_below [] e = cc
-never_below (k ∷ key) e = cc
 
 -- ---- keys that begin with a prefix
 begins_is : (prefix key : List ℕ) → (starts_with nat_eq key prefix ≡ true → key ≡ prefix ++ drop (length prefix) key) × ((rest : List ℕ) → key ≡ prefix ++ rest → starts_with nat_eq key prefix ≡ true)
@@ -181,20 +164,20 @@ pub start_at_prefix : (range : Range) (prefix start : List ℕ) → range.prefix
 start_at_prefix range prefix start e same less = record {
   one = inr (e ∙ ap Some (sym same));
   from = λ h. not_both range.from prefix less (subst (λ (z : List ℕ). IsBelow z range.from) same h);
-  prefix = if_some (λ p. ¬ IsBelow start p) range.prefix prefix e (λ h. never_itself prefix (subst (λ (z : List ℕ). IsBelow z prefix) same h));
+  prefix = if_some (λ p. ¬ IsBelow start p) range.prefix prefix e (λ h. not_itself prefix (subst (λ (z : List ℕ). IsBelow z prefix) same h));
 }
 
 pub start_at_from : (range : Range) (prefix start : List ℕ) → range.prefix ≡ Some prefix → start ≡ range.from → ¬ IsBelow range.from prefix → IsStart range start
 start_at_from range prefix start e same not_less = record {
   one = inl same;
-  from = λ h. never_itself range.from (subst (λ (z : List ℕ). IsBelow z range.from) same h);
+  from = λ h. not_itself range.from (subst (λ (z : List ℕ). IsBelow z range.from) same h);
   prefix = if_some (λ p. ¬ IsBelow start p) range.prefix prefix e (λ h. not_less (subst (λ (z : List ℕ). IsBelow z prefix) same h));
 }
 
 pub start_alone : (range : Range) (start : List ℕ) → range.prefix ≡ None → start ≡ range.from → IsStart range start
 start_alone range start e same = record {
   one = inl same;
-  from = λ h. never_itself range.from (subst (λ (z : List ℕ). IsBelow z range.from) same h);
+  from = λ h. not_itself range.from (subst (λ (z : List ℕ). IsBelow z range.from) same h);
   prefix = subst (λ (z : Option (List ℕ)). IfSome z (λ p. ¬ IsBelow start p)) (sym e) tt;
 }
 

@@ -12,7 +12,7 @@ use Rattle.mt_words.specs.Limits.{widest}
 use Rattle.mt_words.specs.Words.{IsKey, IsBelow, IsColumn, NumbersRise, AreColumns}
 use Rattle.mt_words.specs.Walks.{Pair, IsPair, IsMap, Holds}
 use Rattle.mt_replay.proofs.Members.{of_each, all_from}
-use Rattle.mt_replay.proofs.KeyOrder.{below_trans}
+use Rattle.mt_words.proofs.KeyOrder.{below_trans}
 use Rattle.mt_replay.proofs.StepLemmas.{same_key}
 
 -- ---- columns

@@ -1,31 +1,22 @@
 -- Keys of entries, and keys that strictly rise.
-use Rattle.std.proofs.Common.{◌≡◌, ◌≢◌, ◌∙◌, ◌↔◌, ℕ, suc, ◌-◌, ◌<◌, true, IsTrue, List, [], ◌∷◌, ◌++◌, length, map, get_or, refl, sym, ap, subst, arith}
+use Rattle.std.proofs.Common.{◌≡◌, ◌≢◌, ◌∙◌, ◌↔◌, ℕ, suc, ◌-◌, ◌<◌, true, List, [], ◌∷◌, ◌++◌, length, map, get_or, refl, sym, ap, subst, arith}
 use Rattle.std.specs.Prelude.{nat_lt}
 use Rattle.std.specs.List.{AllByRecursion}
 use Rattle.std.specs.Ordering.{nat_cmp, is_lt}
-use Rattle.std.specs.declared.cmp.Ordering.{Ordering}
-use Rattle.std.specs.declared.cmp.Ordering.TheVariants.{Less, Equal, Greater}
 use Rattle.std.specs.Cmp.Lexicographic.{slice_cmp}
 use Rattle.std.proofs.lemmas.Bool.Decides.{nat_tests}
 use Rattle.std.proofs.lemmas.List.{get_or-map, get_or_default, length-append}
-use Rattle.std.proofs.lemmas.Cmp.{nat_list_cmp_total, ranked}
+use Rattle.std.proofs.lemmas.Cmp.{ranked}
 use Rattle.mt_words.specs.declared.record.Change.{Change}
 use Rattle.mt_words.specs.declared.update.Kind.TheVariants.{Remove}
 use Rattle.mt_words.specs.Slices.{AreBytes, slice_in}
 use Rattle.mt_words.specs.Words.{IsBelow, AreRising}
 use Rattle.mt_words.proofs.SliceLemmas.{by_slices}
+use Rattle.mt_words.proofs.KeyOrder.{below_trans}
 use Rattle.mt_record.specs.Steps.Kept.{IsLastSlice}
 
 abbrev pub AreAbove : List ℕ → List (List ℕ) → Type 0
 AreAbove x xs = AllByRecursion (IsBelow x) xs
-
-is_less : (o : Ordering) → IsTrue (is_lt o) → o ≡ Less
-is_less Less h = refl
-is_less Equal h = cc
-is_less Greater h = cc
-
-below_trans : (a b c : List ℕ) → IsBelow a b → IsBelow b c → IsBelow a c
-below_trans a b c h k = ap is_lt (nat_list_cmp_total.trans a b c (is_less (slice_cmp nat_cmp a b) h) (is_less (slice_cmp nat_cmp b c) k))
 
 -- keys that are above another one are above each key below it
 pub above_all : (x y : List ℕ) (ys : List (List ℕ)) → IsBelow x y → AreAbove y ys → AreAbove x ys

@@ -18,7 +18,8 @@ use Rattle.mt_replay.specs.Survivors.{in_window}
 use Rattle.mt_replay.specs.Cuts.{AreCuts, is_below, in_piece, updates_in}
 use Rattle.mt_replay.specs.Ranges.{dealt_by}
 use Rattle.mt_replay.specs.Steps.Dealing.{extended}
-use Rattle.mt_replay.proofs.KeyOrder.{above_by, below_trans}
+use Rattle.mt_words.proofs.KeyOrder.{below_trans}
+use Rattle.mt_replay.proofs.KeyOrder.{above_by}
 use Rattle.mt_replay.proofs.Rising.{below_later}
 use Rattle.mt_replay.proofs.PieceLemmas.{by_pieces}
 use Rattle.itertools.proofs.KMergeLemmas.{joined-more}

@@ -18,7 +18,8 @@ use Rattle.mt_words.specs.Updates.{update_at}
 use Rattle.mt_words.specs.Words.{IsBelow, AreRising}
 use Rattle.mt_replay.specs.Cuts.{is_below, InKeyOrder}
 use Rattle.mt_replay.specs.Survivors.{wholes}
-use Rattle.mt_replay.proofs.KeyOrder.{below_order, below_trans}
+use Rattle.mt_words.proofs.KeyOrder.{below_trans}
+use Rattle.mt_replay.proofs.KeyOrder.{below_order}
 use Rattle.mt_replay.proofs.Members.{of_each, all_from}
 
 -- each key is below all keys after it

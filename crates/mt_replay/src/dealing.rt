@@ -1,5 +1,5 @@
 //! Deals updates to the pieces of their keys, before anything is sorted.
-ghost use Rattle.std.specs.Prelude.{◌≡◌, ◌≤◌, ◌<◌, ◌+◌, ◌++◌, [], ◌∷◌, List, ℕ, true, false, IfOk, OnOk, length, map, filter, slice_index_or};
+ghost use Rattle.std.specs.Prelude.{◌≡◌, ◌≤◌, ◌<◌, ◌+◌, ◌++◌, [], List, ℕ, true, IfOk, OnOk, length, map, filter};
 ghost use Rattle.mt_words.specs.declared.update.Update.{Update as UpdateValue};
 ghost use Rattle.mt_words.specs.Slices.{slice_in};
 ghost use Rattle.mt_words.specs.Words.{AreRising};

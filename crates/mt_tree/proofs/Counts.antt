@@ -20,7 +20,8 @@ use Rattle.mt_tree.specs.Nodes.{NodeView, LayerView, places, IsLayerTree, IsTree
 use Rattle.mt_tree.specs.Trees.{tree_walk, tree_count, IsTree, HasLayers}
 use Rattle.mt_tree.proofs.Finds.{pairs_rank}
 use Rattle.mt_tree.proofs.Joins.{all_append, all_weaker, all_front, all_back}
-use Rattle.mt_tree.proofs.Uniques.{not_itself, head_or_rest, below_all, later, same_sum}
+use Rattle.mt_words.proofs.KeyOrder.{not_itself}
+use Rattle.mt_tree.proofs.Uniques.{head_or_rest, below_all, later, same_sum}
 
 -- the sum of the numbers of trees of these walks
 abbrev SumsLayers : List (List Pair) → ℕ → Type 0

@@ -1,25 +1,12 @@
 -- A walk has only one number of trees.
-use Rattle.std.proofs.Common.{◌≡◌, ℕ, zero, suc, ◌+◌, ◌-◌, ◌^◌, ◌<◌, min, List, [], ◌∷◌, length, sym, refl, ap, ◌∙◌, subst, true, Ordering, inl, inr, ◌⊎◌, arith}
+use Rattle.std.proofs.Common.{◌≡◌, ℕ, zero, suc, ◌+◌, ◌-◌, ◌^◌, ◌<◌, min, List, [], ◌∷◌, length, sym, refl, ap, ◌∙◌, subst, inl, inr, ◌⊎◌, arith}
 use Rattle.std.specs.Prelude.{Contains, sum_by}
 use Rattle.std.specs.List.{AllByRecursion}
-use Rattle.std.specs.Ordering.{ordering_reverse, is_lt}
 use Rattle.std.proofs.lemmas.List.Sums.{sum_by-cons}
-use Rattle.std.specs.Cmp.Lexicographic.{nat_list_cmp_total}
-use Rattle.std.specs.declared.cmp.Ordering.TheVariants.{Less, Equal, Greater}
 use Rattle.mt_words.specs.Walks.{Pair}
 use Rattle.mt_words.specs.Words.{IsBelow, AreRising}
+use Rattle.mt_words.proofs.KeyOrder.{not_both, not_itself}
 use Rattle.mt_tree.specs.Layers.{AreHeads, IsLayers, own_and_under, CountsLayers}
-
-is_less : (o : Ordering) → is_lt o ≡ true → o ≡ Less
-is_less Less e = refl
-is_less Equal e = cc
-is_less Greater e = cc
-
-not_both : (x y : List ℕ) → IsBelow x y → IsBelow y x → ⊥
-not_both x y e f = let g : Less ≡ Greater = sym (is_less _ e) ∙ nat_list_cmp_total.antisymm x y ∙ ap ordering_reverse (is_less _ f) in cc
-
-pub not_itself : (x : List ℕ) → IsBelow x x → ⊥
-not_itself x e = not_both x x e e
 
 pub head_or_rest : (r : List ℕ) (qs : List (List ℕ)) (q : List ℕ) → Contains (r ∷ qs) q → (r ≡ q) ⊎ Contains qs q
 head_or_rest r qs q (zero, l, e) = inl e
