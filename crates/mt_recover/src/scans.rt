@@ -75,7 +75,7 @@ pub(crate) fn scan_one<S: Source>(alloc: Global, inputs: Inputs<S>) -> Result<Ou
     gather_scans(alloc, board, all_done(alloc, scans)?)
 }
 
-/// Does the same as `scan_one`, but on several threads. If there are fewer sources than workers, several threads scan
+/// Does the same as `scan_one`, but on several threads. If there are two workers or more a source, several threads scan
 /// each log. Drops the updates of a log at or past the least last timestamp of the logs that any thread has scanned by
 /// then.
 pub(crate) fn scan_all<R: Threads + Sync, S: Source + Send>(
