@@ -1,16 +1,15 @@
 -- Plans: one more pair, and the parts of a whole walk.
-use Rattle.std.proofs.Common.{◌≡◌, ◌≢◌, ◌⊎◌, suc, get_or, Bool, true, false, ◌<◌, ◌≤◌, ◌^◌, ◌-◌, ℕ, ◌+◌, List, [], ◌∷◌, ◌++◌, length, map, take, sym, refl, ap, subst, ◌∙◌, inl, inr, append_assoc, arith, length-append}
+use Rattle.std.proofs.Common.{◌≡◌, ◌≢◌, ◌⊎◌, suc, get_or, true, false, ◌<◌, ◌≤◌, ◌^◌, ◌-◌, ℕ, ◌+◌, List, [], ◌∷◌, ◌++◌, length, map, take, sym, refl, ap, subst, ◌∙◌, inl, inr, append_assoc, arith, length-append}
 use Rattle.std.specs.List.{AllByRecursion}
-use Rattle.std.specs.Ordering.{nat_cmp, is_lt, ordering_reverse}
-use Rattle.std.specs.Cmp.Lexicographic.{slice_cmp, nat_list_cmp_total}
-use Rattle.std.specs.declared.cmp.Ordering.{Ordering}
-use Rattle.std.specs.declared.cmp.Ordering.TheVariants.{Less, Equal, Greater}
+use Rattle.std.specs.Ordering.{nat_cmp, is_lt}
+use Rattle.std.specs.Cmp.Lexicographic.{slice_cmp}
 use Rattle.std.proofs.Math.Seq.{take-append_seam}
-use Rattle.std.proofs.lemmas.Bool.{false≢true}
-use Rattle.std.proofs.lemmas.List.{append-nil}
+use Rattle.std.proofs.lemmas.Bool.{cases_lt, false≢true, false_from_ne_true}
+use Rattle.std.proofs.lemmas.List.{append-nil, nil_from_length}
 use Rattle.mt_words.specs.Walks.{Pair, KeysRise, joined}
 use Rattle.mt_words.specs.Words.{IsBelow}
 use Rattle.mt_words.specs.Built.{entry_of}
+use Rattle.mt_words.proofs.KeyOrder.{not_both, not_itself}
 use Rattle.mt_record.specs.Spelling.{change_bytes}
 use Rattle.mt_record.specs.Parts.{part_head_bytes, footer_bytes}
 use Rattle.mt_tree.specs.Range.{from}
@@ -22,7 +21,7 @@ use Rattle.mt_checkpoint.specs.declared.checkpoint.TheConstants.{MOST_PARTS}
 use Rattle.mt_checkpoint.specs.declared.planning.TheConstants.{AROUND}
 use Rattle.mt_checkpoint.specs.declared.planning.Stretch.{Stretch}
 use Rattle.mt_checkpoint.specs.declared.planning.Planning.{Planning}
-use Rattle.mt_checkpoint.specs.Steps.Planning.{within, StartsAt, IsStretch, AreStretches, size_of, LiesWithin, IsFull, AreFull, IsPlan, IsPlanned, HasAtLeast, IsDivisionFault, MayBePart, MakeUp}
+use Rattle.mt_checkpoint.specs.Steps.Planning.{within, StartsAt, IsStretch, AreStretches, size_of, IsWithin, LiesWithin, IsFull, AreFull, IsPlan, IsPlanned, HasAtLeast, IsDivisionFault, MayBePart, MakeUp}
 use Rattle.mt_checkpoint.proofs.Fewest.{fewest, full_longer, full_none, full_snoc, joined_snoc, least_parts}
 use Rattle.mt_checkpoint.proofs.Texts.{size_more}
 
@@ -40,19 +39,12 @@ stretches_snoc [] (other ∷ lists) stretch list are is = absurd are
 stretches_snoc (other ∷ stretches) [] stretch list are is = absurd are
 stretches_snoc (other ∷ stretches) (others ∷ lists) stretch list are is = (are.0, stretches_snoc stretches lists stretch list are.1 is)
 
-no_length : (pairs : List Pair) → length pairs ≡ 0 → pairs ≡ []
-no_length [] none = refl
-no_length (pair ∷ pairs) none = absurd (omega (arith, none))
-
 -- stretches are as many as the lists that they have
 lengths_of : (stretches : List Stretch) (lists : List (List Pair)) → AreStretches stretches lists → length stretches ≡ length lists
 lengths_of [] [] are = refl
 lengths_of [] (list ∷ lists) are = absurd are
 lengths_of (stretch ∷ stretches) [] are = absurd are
 lengths_of (stretch ∷ stretches) (list ∷ lists) are = omega (arith, lengths_of stretches lists are.1)
-
-below_or_not : (n m : ℕ) → (n < m) ⊎ (m ≤ n)
-below_or_not n m = grind arith
 
 module _ (limit : ℕ) (plan : Planning) (seen : List Pair) (pair : Pair) (fields : ℕ) (is : IsPlan limit plan seen) (same : (version : ℕ) → fields ≡ length (change_bytes (entry_of version pair.0 pair.1))) where
   -- the last part takes the pair
@@ -110,7 +102,7 @@ module _ (limit : ℕ) (plan : Planning) (seen : List Pair) (pair : Pair) (field
         ];
       } in
       let full_to = full_snoc limit is.full is.last pair is.full_to last_full in
-      elim (below_or_not (length new.full.items) MOST_PARTS) as (λ _. IsPlanned limit new (seen ++ pair ∷ [])) [
+      elim (cases_lt (length new.full.items) MOST_PARTS) as (λ _. IsPlanned limit new (seen ++ pair ∷ [])) [
         | inl fewer ↦ inl (began new full whole are full_to fewer (all_append (LiesWithin limit) is.full (is.last ∷ []) is.full_within (is.last_within, tt)) of_limit start one size)
         | inr many ↦ inr (record {
           many = many;
@@ -124,7 +116,7 @@ module _ (limit : ℕ) (plan : Planning) (seen : List Pair) (pair : Pair) (field
   pub began_first : (new : Planning) → new.full.items ≡ plan.full.items → plan.last.count ≡ 0
       → new.limit ≡ plan.limit → pair.0 ≡ new.last.start → new.last.count ≡ 1 → new.size ≡ AROUND + (8 + fields) → IsPlanned limit new (seen ++ pair ∷ [])
   began_first new items none of_limit start one size =
-      let empty : is.last ≡ [] = no_length is.last (omega (arith, none, is.last_is.count)) in
+      let empty : is.last ≡ [] = nil_from_length is.last (omega (arith, none, is.last_is.count)) in
       let whole = is.whole ∙ ap (λ (z : List Pair). joined is.full ++ z) empty ∙ append-nil (joined is.full) in
       let are = subst (λ (z : List Stretch). AreStretches z is.full) (sym items) is.full_are in
       let fewer : length new.full.items < MOST_PARTS = omega (arith, is.few, ap (λ (z : List Stretch). length z) items) in
@@ -154,32 +146,14 @@ still_over limit plan seen pairs many (inr over) = inr (record {
 
 -- ---- the pairs of a stretch
 
--- nothing is below itself, and of two keys not each is below the other
-not_less : (a b : List ℕ) → is_lt (slice_cmp nat_cmp a b) ≡ true → is_lt (slice_cmp nat_cmp b a) ≡ false
-not_less a b less = by (slice_cmp nat_cmp a b) (slice_cmp nat_cmp b a) refl refl
-  where
-    by : (o r : Ordering) → slice_cmp nat_cmp a b ≡ o → slice_cmp nat_cmp b a ≡ r → is_lt r ≡ false
-    by Less Less e f = absurd (let g : Less ≡ Greater = sym e ∙ nat_list_cmp_total.antisymm a b ∙ ap ordering_reverse f in cc)
-    by Equal r e f = absurd (let g : is_lt Equal ≡ true = sym (ap is_lt e) ∙ less in cc)
-    by Greater r e f = absurd (let g : is_lt Greater ≡ true = sym (ap is_lt e) ∙ less in cc)
-    by o Equal e f = refl
-    by o Greater e f = refl
-
-not_itself : (key : List ℕ) → is_lt (slice_cmp nat_cmp key key) ≡ false
-not_itself key = by (is_lt (slice_cmp nat_cmp key key)) refl
-  where
-    by : (b : Bool) → is_lt (slice_cmp nat_cmp key key) ≡ b → b ≡ false
-    by true e = absurd (let g : true ≡ false = sym e ∙ not_less key key e in cc)
-    by false e = refl
-
 -- no pair above a key is left out
 all_from : (start : List ℕ) (walk : List Pair) → AllByRecursion (λ pair. IsBelow start pair.0) walk → from start walk ≡ walk
 all_from start [] above = refl
-all_from start (pair ∷ walk) above = rw (not_less start pair.0 above.0) (ap (λ z. pair ∷ z) (all_from start walk above.1))
+all_from start (pair ∷ walk) above = rw (false_from_ne_true (is_lt (slice_cmp nat_cmp pair.0 start)) (not_both start pair.0 above.0)) (ap (λ z. pair ∷ z) (all_from start walk above.1))
 
 -- at or after the key of a pair are the pair and what follows it
 from_pair : (before : List Pair) (pair : Pair) (walk : List Pair) → KeysRise (before ++ pair ∷ walk) → from pair.0 (before ++ pair ∷ walk) ≡ pair ∷ walk
-from_pair [] pair walk rise = rw (not_itself pair.0) (ap (λ z. pair ∷ z) (all_from pair.0 walk rise.0))
+from_pair [] pair walk rise = rw (false_from_ne_true (is_lt (slice_cmp nat_cmp pair.0 pair.0)) (not_itself pair.0)) (ap (λ z. pair ∷ z) (all_from pair.0 walk rise.0))
 from_pair (other ∷ before) pair walk rise =
     let less : is_lt (slice_cmp nat_cmp other.0 pair.0) ≡ true = (all_back (λ z. IsBelow other.0 z.0) before (pair ∷ walk) rise.0).0 in
     rw less (from_pair before pair walk rise.1)
@@ -248,7 +222,7 @@ made_up limit walk plan stretches rise is same =
 -- ---- other checkpoints of the pairs
 
 may_be : (version limit : ℕ) (parts : List (List Pair)) → AllByRecursion (λ part. length part < 2 ^ 32) parts
-    → ((i : ℕ) → (length (get_or parts i []) ≤ 1) ⊎ (size_of version (get_or parts i []) ≤ limit)) → AllByRecursion (MayBePart version limit) parts
+    → ((i : ℕ) → IsWithin version limit (get_or parts i [])) → AllByRecursion (MayBePart version limit) parts
 may_be version limit [] counts each = tt
 may_be version limit (part ∷ parts) counts each = ((counts.0, each 0), may_be version limit parts counts.1 (λ i. each (suc i)))
 
@@ -263,8 +237,8 @@ part_length checkpoint part =
 pub needs_parts : (limit : ℕ) (pairs : List Pair) (least : ℕ) → HasAtLeast limit pairs least → NeedsParts limit pairs least
 needs_parts limit pairs least has other is = has other.version other.parts is.some (may_be other.version limit other.parts is.counts each) is.whole
   where
-    each : (i : ℕ) → (length (pairs_of other i) ≤ 1) ⊎ (size_of other.version (pairs_of other i) ≤ limit)
-    each i = elim (is.within i) as (λ _. (length (pairs_of other i) ≤ 1) ⊎ (size_of other.version (pairs_of other i) ≤ limit)) [
+    each : (i : ℕ) → IsWithin other.version limit (pairs_of other i)
+    each i = elim (is.within i) as (λ _. IsWithin other.version limit (pairs_of other i)) [
       | inl single ↦ inl single
       | inr room ↦ inr (omega (arith, room, part_length other i))
     ]

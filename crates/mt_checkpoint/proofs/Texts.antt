@@ -2,6 +2,7 @@
 use Rattle.std.proofs.Common.{◌≡◌, Option, subst, ℕ, zero, suc, ◌+◌, List, [], ◌∷◌, ◌++◌, length, take, refl, sym, ap, ◌∙◌, arith, length-append}
 use Rattle.std.proofs.lemmas.List.{append-nil}
 use Rattle.std.proofs.lemmas.List.Concat.{flat_map-append}
+use Rattle.std.proofs.Math.Seq.{take-nil}
 use Rattle.std.specs.Io.KnownBytes.{Appends}
 use Rattle.mt_block.specs.declared.part_header.PartHeader.{PartHeader}
 use Rattle.mt_block.specs.Blocks.{blocks}
@@ -15,7 +16,7 @@ use Rattle.mt_record.specs.Spelling.{change_bytes}
 use Rattle.mt_record.specs.Parts.{entry_spelling, footer_bytes}
 use Rattle.mt_checkpoint.specs.Checkpoints.{Checkpoint, entries_text, pairs_of, part_header, IsPartFile}
 use Rattle.mt_checkpoint.specs.Steps.Planning.{size_of}
-use Rattle.mt_checkpoint.specs.Steps.Writing.{no_pair, text_both, AreBlocksOf, HaveSealed, HaveWrittenAll, both_sealed}
+use Rattle.mt_checkpoint.specs.Steps.Writing.{text_both, AreBlocksOf, HaveSealed, HaveWrittenAll, both_sealed}
 use Rattle.mt_checkpoint.specs.declared.entries.Rest.{Rest}
 
 -- the frame of an entry has eight bytes
@@ -40,7 +41,7 @@ size_more version pairs pair fields is =
 pub one_text : (version left : ℕ) (pair : Pair) → (left ≡ 0 → ⊥) → entry_spelling (entry_of version pair.0 pair.1) ≡ entries_text version (take left (pair ∷ []))
 one_text version zero pair some = absurd (some refl)
 one_text version (suc left) pair some =
-    sym (append-nil (entry_spelling (entry_of version pair.0 pair.1))) ∙ ap (λ (pairs : List Pair). entries_text version (pair ∷ pairs)) (sym (no_pair left))
+    sym (append-nil (entry_spelling (entry_of version pair.0 pair.1))) ∙ ap (λ (pairs : List Pair). entries_text version (pair ∷ pairs)) (sym (take-nil left))
 
 -- ---- blocks
 

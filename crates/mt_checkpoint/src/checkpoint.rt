@@ -50,9 +50,10 @@ impl<'a> Model for Checkpoint<'a> {
 
 impl<'a> Checkpoint<'a> {
     /// Plans checkpoint `number` of the tree: which pairs each of its parts has. Writes nothing. The checkpoint is at the
-    /// timestamp `cutoff`, and its entries have the version `version`, or 1 if that is 0. A part has at most `limit`
-    /// bytes, or a single entry, and there are as few parts as that allows. Err: no timestamp is above the cutoff; no
-    /// version is above `version`; more than `MOST_PARTS` parts are needed; out of memory.
+    /// timestamp `cutoff`, and its entries have the version `version`, or 1 if that is 0. The text of a part has at most
+    /// `limit` bytes, or a single entry, and there are as few parts as that allows. The blocks of its file take 16 bytes
+    /// more each. Err: no timestamp is above the cutoff; no version is above `version`; more than `MOST_PARTS` parts are
+    /// needed; out of memory.
     pub fn plan(
         alloc: Global,
         tree: &'a Tree,

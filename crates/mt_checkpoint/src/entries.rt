@@ -48,18 +48,18 @@ pub fn write_blocks<W: Write>(
 
 /// What a walk has still to write of a part.
 #[derive(Drop)]
-pub struct Rest<'a, W> {
+struct Rest<'a, W> {
     /// The version of the entries.
-    pub version: u64,
+    version: u64,
     /// The number of entries that are not written yet.
-    pub left: u32,
+    left: u32,
     /// The mark of the file.
-    pub mark: u32,
+    mark: u32,
     /// The bytes that are in no block yet.
-    pub body: &'a mut Vec<u8>,
+    body: &'a mut Vec<u8>,
     /// A buffer for blocks.
-    pub blocks: &'a mut Vec<u8>,
-    pub out: &'a mut W,
+    blocks: &'a mut Vec<u8>,
+    out: &'a mut W,
 }
 
 impl<'a, W: Write> Rest<'a, W> {
@@ -97,7 +97,7 @@ impl<'a, W: Write> Rest<'a, W> {
 }
 
 /// Writes the entry of each pair, and ends the walk after the last entry of the part.
-pub struct Entries;
+struct Entries;
 
 impl<'a, W: Write> Visitor<Rest<'a, W>> for Entries {
     type Error = io::Error;

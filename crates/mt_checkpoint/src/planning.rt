@@ -15,7 +15,7 @@ use mt_words::{Key, Memory, PackedColumns};
 use std::alloc::Global;
 use std::mem;
 
-/// The number of bytes around the entries of a part.
+/// The number of bytes around the entries in the text of a part.
 const AROUND: usize = PART_HEADER_BYTES + FOOTER_BYTES;
 
 /// The pairs of a part: the first ones at or after a key.
@@ -27,7 +27,8 @@ pub struct Stretch {
     pub count: u32,
 }
 
-/// Returns the parts of a tree. Each has at most `limit` bytes, or a single entry. Err: there are too many; out of memory.
+/// Returns the parts of a tree. The text of each has at most `limit` bytes, or a single entry. Err: there are too many; out
+/// of memory.
 pub fn stretches_of(alloc: Global, tree: &Tree, limit: usize) -> Result<Vec<Stretch>, PlanFault>
     requires { KeysRise (tree_walk tree.now) }
     ensures parts { IfOk result (λ stretches. MakeUp limit (tree_walk tree.now) stretches.items) }
@@ -55,16 +56,16 @@ pub fn stretches_of(alloc: Global, tree: &Tree, limit: usize) -> Result<Vec<Stre
 
 /// The parts of the pairs so far.
 #[derive(Drop)]
-pub struct Planning {
-    pub alloc: Global,
-    /// The most bytes of a part that has more than one entry.
-    pub limit: usize,
+struct Planning {
+    alloc: Global,
+    /// The most bytes of the text of a part that has more than one entry.
+    limit: usize,
     /// The parts before the last.
-    pub full: Vec<Stretch>,
+    full: Vec<Stretch>,
     /// The last part.
-    pub last: Stretch,
-    /// The number of bytes of the last part.
-    pub size: usize,
+    last: Stretch,
+    /// The number of bytes of the text of the last part.
+    size: usize,
 }
 
 impl Planning {
@@ -88,7 +89,7 @@ impl Planning {
 }
 
 /// Adds each pair to the last part, or begins another part with it. Ends the walk once there are too many.
-pub struct Planner;
+struct Planner;
 
 impl Visitor<Planning> for Planner {
     type Error = Memory;

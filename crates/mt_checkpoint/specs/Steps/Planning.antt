@@ -35,17 +35,21 @@ AreStretches [] (list ∷ lists) = ⊥
 AreStretches (stretch ∷ stretches) [] = ⊥
 AreStretches (stretch ∷ stretches) (list ∷ lists) = IsStretch stretch list × AreStretches stretches lists
 
--- how many bytes a part of these pairs has, of this version
+-- how many bytes the text of a part of these pairs has, of this version
 abbrev pub size_of : ℕ → List Pair → ℕ
 size_of version pairs = AROUND + length (entries_text version pairs)
 
--- a part of these pairs has at most this many bytes, or a single entry
-abbrev pub LiesWithin : ℕ → List Pair → Type 0
-LiesWithin limit pairs = (version : ℕ) → (length pairs ≤ 1) ⊎ (size_of version pairs ≤ limit)
+-- the text of a part of these pairs, of this version, has at most this many bytes, or a single entry
+abbrev pub IsWithin : ℕ → ℕ → List Pair → Type 0
+IsWithin version limit pairs = (length pairs ≤ 1) ⊎ (size_of version pairs ≤ limit)
 
--- the pairs may be a part: they can be counted, and it has at most this many bytes of this version, or a single entry
+-- likewise, of any version
+abbrev pub LiesWithin : ℕ → List Pair → Type 0
+LiesWithin limit pairs = (version : ℕ) → IsWithin version limit pairs
+
+-- the pairs may be a part: they can be counted, and its text lies within the limit
 abbrev pub MayBePart : ℕ → ℕ → List Pair → Type 0
-MayBePart version limit pairs = (length pairs < 2 ^ 32) × ((length pairs ≤ 1) ⊎ (size_of version pairs ≤ limit))
+MayBePart version limit pairs = (length pairs < 2 ^ 32) × IsWithin version limit pairs
 
 -- however these pairs are divided into parts, there are at least this many
 abbrev pub HasAtLeast : ℕ → List Pair → ℕ → Type 0

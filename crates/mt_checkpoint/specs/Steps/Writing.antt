@@ -4,6 +4,7 @@ use Rattle.std.specs.List.{flat_map}
 use Rattle.std.specs.Io.KnownBytes.{Appends}
 use Rattle.std.proofs.Common.{refl, sym, ap, ◌∙◌, subst, arith, length-append, append_assoc}
 use Rattle.std.proofs.KnownBytes.{Appends-nil, Appends-trans}
+use Rattle.std.proofs.Math.Seq.{take-nil}
 use Rattle.std.proofs.lemmas.List.{append-nil, map-append}
 use Rattle.std.proofs.lemmas.List.Concat.{flat_map-append}
 use Rattle.std.proofs.lemmas.List.Elements.{All-append, All-nil}
@@ -43,10 +44,6 @@ pub record HaveWrittenAll {W : Type 0} (contents : W → Option (List ℕ)) (old
   pub same_out : new.out.ghost_name ≡ old.out.ghost_name
   pub sealed : HaveSealed contents old (record new { left = old.left }) (entries_text old.version pairs ++ footer_bytes end (length pairs))
   pub empty : new.body.now.items ≡ []
-
-pub no_pair : (n : ℕ) → take n (let none : List Pair = [] in none) ≡ []
-no_pair zero = refl
-no_pair (suc n) = refl
 
 pub text_both : (version : ℕ) (v w : List Pair) → entries_text version (v ++ w) ≡ entries_text version v ++ entries_text version w
 text_both version v w =
@@ -113,7 +110,7 @@ left_as contents old new n text is = record {
 pub none_written : {W : Type 0} (contents : W → Option (List ℕ)) (rest : Rest W) → HaveWritten contents rest rest []
 none_written contents rest = record {
   left = omega arith;
-  sealed = subst (λ z. HaveSealed contents rest rest (entries_text rest.version z)) (sym (no_pair rest.left)) (none_sealed contents rest);
+  sealed = subst (λ z. HaveSealed contents rest rest (entries_text rest.version z)) (sym (take-nil rest.left)) (none_sealed contents rest);
 }
 
 pub both_written : {W : Type 0} (contents : W → Option (List ℕ)) (a b c : Rest W) (v w : List Pair) → HaveWritten contents a b v → HaveWritten contents b c w → HaveWritten contents a c (v ++ w)
