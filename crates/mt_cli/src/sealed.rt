@@ -74,7 +74,7 @@ impl Piece {
         })
     }
 
-    /// Takes away so many bytes that end its text.
+    /// Removes this many bytes from the end of its text.
     pub fn cut_off(&mut self, bytes: usize) {
         let left = self.text.len().saturating_sub(bytes);
         self.end = self.file_at(left);
