@@ -1,18 +1,20 @@
 -- The keys of a range are one stretch: of rising keys at or after its start, those that it has are a beginning.
+use Rattle.std.proofs.Math.Seq.{take-nil}
 use Rattle.std.proofs.lemmas.List.{append-nil}
 use Rattle.std.proofs.lemmas.Slice.Eq.{starts_is}
+use Rattle.std.proofs.lemmas.Bool.{false≢true, false_from_ne_true, not-true, not_from_false}
 use Rattle.std.proofs.lemmas.Bool.Decides.{Decides-eqb}
 use Rattle.mt_words.proofs.SliceBytes.{slice_cmp-append}
 use Rattle.std.proofs.lemmas.Cmp.{ranked}
 use Rattle.std.proofs.Common.{◌≡◌, ◌⊎◌, inl, inr, ℕ, zero, suc, Bool, true, false, Option, Some, None, List, [], ◌∷◌, ◌++◌, length, take, drop, refl, sym, ap, ◌∙◌, subst}
-use Rattle.std.specs.Prelude.{◌&&◌, filter, not, IfSome, nat_eq}
+use Rattle.std.specs.Prelude.{◌&&◌, filter, IfSome, nat_eq}
 use Rattle.std.specs.List.{AllByRecursion, starts_with}
 use Rattle.std.specs.Ordering.{nat_cmp, is_lt, ordering_reverse}
 use Rattle.std.specs.Cmp.Lexicographic.{slice_cmp, nat_list_cmp_total}
 use Rattle.std.specs.declared.cmp.Ordering.{Ordering}
 use Rattle.std.specs.declared.cmp.Ordering.TheVariants.{Less, Equal, Greater}
 use Rattle.mt_words.specs.Words.{IsBelow}
-use Rattle.mt_words.proofs.KeyOrder.{below_trans, not_both, not_itself, never_below}
+use Rattle.mt_words.proofs.KeyOrder.{below_trans, never_below}
 use Rattle.mt_words.specs.Walks.{Pair, KeysRise}
 use Rattle.mt_tree.specs.Range.{is_from, from}
 use Rattle.mt_cli.specs.declared.request.Range.{Range}
@@ -83,12 +85,11 @@ has_earlier range start x y is h less e =
     rw (before_earlier range.to x y less parts.0, begins_earlier range.prefix x y (from_start range.prefix start x h is.prefix) less parts.1) refl
 
 -- ---- pairs of a range
-at_or_after : (start key : List ℕ) (b : Bool) → is_lt (slice_cmp nat_cmp key start) ≡ b → ¬ IsBelow key start → not b ≡ true
-at_or_after start key true e h = absurd (h e)
-at_or_after start key false e h = refl
+at_or_after : (start : List ℕ) (pair : Pair) → ¬ IsBelow pair.0 start → is_from start pair ≡ true
+at_or_after start pair h = let less = is_lt (slice_cmp nat_cmp pair.0 start) in not_from_false less (false_from_ne_true less h)
 
-not_below : (start key : List ℕ) → not (is_lt (slice_cmp nat_cmp key start)) ≡ true → ¬ IsBelow key start
-not_below start key e less = let g : not true ≡ true = rw less at e in cc
+not_below : (start : List ℕ) (pair : Pair) → is_from start pair ≡ true → ¬ IsBelow pair.0 start
+not_below start pair e less = false≢true (sym (not-true (is_lt (slice_cmp nat_cmp pair.0 start)) e) ∙ less)
 
 is_from_start : (range : Range) (start : List ℕ) (pair : Pair) → IsStart range start → is_in range pair ≡ true → is_from start pair ≡ true
 is_from_start range start pair is e = by is.one
@@ -100,11 +101,11 @@ is_from_start range start pair is e = by is.one
     by (inl same) = rw same parts.0
     by (inr same) =
         let begins : begins_with (Some start) pair.0 ≡ true = ap (λ (p : Option (List ℕ)). begins_with p pair.0) (sym same) ∙ (both (is_below_end range.to pair.0) (begins_with range.prefix pair.0) parts.1).1 in
-        at_or_after start pair.0 (is_lt (slice_cmp nat_cmp pair.0 start)) refl (begins_from start pair.0 begins)
+        at_or_after start pair (begins_from start pair.0 begins)
 
 is_in_of : (range : Range) (start : List ℕ) (pair : Pair) → IsStart range start → is_from start pair ≡ true → is_in range pair ≡ has range pair.0
 is_in_of range start pair is e =
-    let after : is_from range.from pair ≡ true = at_or_after range.from pair.0 (is_lt (slice_cmp nat_cmp pair.0 range.from)) refl (λ less. not_below start pair.0 e (below_not_above pair.0 range.from start less is.from)) in
+    let after : is_from range.from pair ≡ true = at_or_after range.from pair (λ less. not_below start pair e (below_not_above pair.0 range.from start less is.from)) in
     rw after refl
 
 -- after a key that the range does not have, it has none
@@ -120,17 +121,13 @@ gone range start x (pair ∷ walk) is h e above = by (is_in range pair) refl (go
     by false f rest = rw f rest
 
 -- ---- one stretch
-no_pair : (n : ℕ) → take n (let none : List Pair = [] in none) ≡ []
-no_pair zero = refl
-no_pair (suc n) = refl
-
 stopped : (test : Pair → Bool) (n : ℕ) (pair : Pair) (pairs : List Pair) → test pair ≡ false → front test n (pair ∷ pairs) ≡ []
 stopped test zero pair pairs e = refl
 stopped test (suc n) pair pairs e = rw e refl
 
 -- the pairs of a walk that a range has are the first ones at or after its start
 pub stretch : (range : Range) (start : List ℕ) (n : ℕ) (walk : List Pair) → IsStart range start → KeysRise walk → front (λ pair. has range pair.0) n (from start walk) ≡ take n (filter (is_in range) walk)
-stretch range start n [] is rise = sym (no_pair n)
+stretch range start n [] is rise = sym (take-nil n)
 stretch range start n (pair ∷ walk) is rise = by (λ k. stretch range start k walk is rise.1) (is_from start pair) (is_in range pair) (has range pair.0) refl refl refl
   where
     test : Pair → Bool
@@ -148,38 +145,17 @@ stretch range start n (pair ∷ walk) is rise = by (λ k. stretch range start k 
         taken zero rest = refl
         taken (suc n) rest = rw g (ap (λ z. pair ∷ z) (rest n))
     by rest true false false e f g =
-        rw (e, f) (stopped test n pair (from start walk) g ∙ sym (ap (take n) (gone range start pair.0 walk is (not_below start pair.0 e) g rise.0) ∙ no_pair n))
+        rw (e, f) (stopped test n pair (from start walk) g ∙ sym (ap (take n) (gone range start pair.0 walk is (not_below start pair e) g rise.0) ∙ take-nil n))
 
 -- ---- the start
 pub below_along : (a b x y : List ℕ) → a ≡ x → b ≡ y → IsBelow a b → IsBelow x y
 below_along a b x y e f less = ap is_lt (λ i. slice_cmp nat_cmp (sym e i) (sym f i)) ∙ less
 
-pub differ : true ≡ false → ⊥
-differ e = cc
-
-if_some : {X : Type 0} (P : X → Type 0) (o : Option X) (x : X) → o ≡ Some x → P x → IfSome o P
-if_some P o x e p = subst (λ (z : Option _). IfSome z P) (sym e) p
-
-pub start_at_prefix : (range : Range) (prefix start : List ℕ) → range.prefix ≡ Some prefix → start ≡ prefix → IsBelow range.from prefix → IsStart range start
-start_at_prefix range prefix start e same less = record {
-  one = inr (e ∙ ap Some (sym same));
-  from = λ h. not_both range.from prefix less (subst (λ (z : List ℕ). IsBelow z range.from) same h);
-  prefix = if_some (λ p. ¬ IsBelow start p) range.prefix prefix e (λ h. not_itself prefix (subst (λ (z : List ℕ). IsBelow z prefix) same h));
-}
-
-pub start_at_from : (range : Range) (prefix start : List ℕ) → range.prefix ≡ Some prefix → start ≡ range.from → ¬ IsBelow range.from prefix → IsStart range start
-start_at_from range prefix start e same not_less = record {
-  one = inl same;
-  from = λ h. not_itself range.from (subst (λ (z : List ℕ). IsBelow z range.from) same h);
-  prefix = if_some (λ p. ¬ IsBelow start p) range.prefix prefix e (λ h. not_less (subst (λ (z : List ℕ). IsBelow z prefix) same h));
-}
-
-pub start_alone : (range : Range) (start : List ℕ) → range.prefix ≡ None → start ≡ range.from → IsStart range start
-start_alone range start e same = record {
-  one = inl same;
-  from = λ h. not_itself range.from (subst (λ (z : List ℕ). IsBelow z range.from) same h);
-  prefix = subst (λ (z : Option (List ℕ)). IfSome z (λ p. ¬ IsBelow start p)) (sym e) tt;
-}
+-- the start is this key, which is one of the two, and below none of them
+pub starts_at : (range : Range) (prefix : Option (List ℕ)) (start key : List ℕ) → range.prefix ≡ prefix → start ≡ key → (key ≡ range.from) ⊎ (range.prefix ≡ Some key) → ¬ IsBelow key range.from → IfSome prefix (λ p. ¬ IsBelow key p)
+    → IsStart range start
+starts_at range prefix start key e same one from above =
+    subst (IsStart range) (sym same) (record { one = one; from = from; prefix = subst (λ (z : Option (List ℕ)). IfSome z (λ p. ¬ IsBelow key p)) (sym e) above })
 
 -- ---- what a walk from the start has shown
 pub shows_range : {T : Type 0} (Shown : T → T → List Pair → Type 0) (old new : Rest T) (last : T) (start : List ℕ) (walk : List Pair) → IsStart old.range.now start → KeysRise walk → old.left ≡ old.range.now.count

@@ -91,7 +91,7 @@ impl<'a> Checked<'a> {
                 ("log", Cell::Number(self.log_of(start.window.cutoff))),
                 ("begin", Cell::Number(Some(start.window.begin))),
                 ("memory", Cell::Number(self.memory())),
-                ("last", Cell::Number(Some(self.last()))),
+                ("last", Cell::Number(Some(self.last_up_to(u64::MAX)))),
                 ("version", Cell::Number(Some(self.version()))),
             ];
             write_row(&row, is_json, out)?;
@@ -103,7 +103,7 @@ impl<'a> Checked<'a> {
     /// segment that does, to which the worker may go on to append.
     pub fn log_of(&self, cutoff: u64) -> Option<u64> {
         for (number, log) in self.logs.iter().enumerate() {
-            if matches!(log.front(), Some(front) if self.ends_log(front, cutoff)) {
+            if self.ends_log(log, cutoff) {
                 return Some(number as u64);
             }
         }
@@ -111,7 +111,10 @@ impl<'a> Checked<'a> {
     }
 
     /// Returns whether a file ends at the cutoff, and no segment of its worker's log ends after that, or is newer and ends there.
-    fn ends_log(&self, file: &LogFront, cutoff: u64) -> bool {
+    fn ends_log(&self, log: &CheckedLog<'_>, cutoff: u64) -> bool {
+        let Some(file) = log.front() else {
+            return false;
+        };
         if file.last() != cutoff {
             return false;
         }
@@ -145,7 +148,7 @@ impl<'a> Checked<'a> {
             return Ok(early);
         }
         for (number, log) in self.logs.iter().enumerate() {
-            if matches!(log.front(), Some(front) if self.ends_log(front, cutoff)) {
+            if self.ends_log(log, cutoff) {
                 early.push(number)?;
             }
         }
@@ -154,22 +157,18 @@ impl<'a> Checked<'a> {
 
     /// Returns the greatest timestamp of the logs that have not ended.
     pub fn last_below_end(&self) -> u64 {
-        let mut last = 0;
-        for front in self.logs.iter().filter_map(CheckedLog::front) {
-            if front.last() < u64::MAX {
-                last = front.last().max(last);
-            }
-        }
-        last
+        self.last_up_to(u64::MAX - 1)
     }
 
-    /// Returns the greatest timestamp of the logs.
-    fn last(&self) -> u64 {
-        let mut last = 0;
+    /// Returns the greatest timestamp of the logs that end at this timestamp or before it.
+    fn last_up_to(&self, end: u64) -> u64 {
+        let mut greatest = 0;
         for front in self.logs.iter().filter_map(CheckedLog::front) {
-            last = front.last().max(last);
+            if front.last() <= end {
+                greatest = front.last().max(greatest);
+            }
         }
-        last
+        greatest
     }
 
     /// Returns the greatest version of the logs and of the entries of the chosen checkpoint.
@@ -259,13 +258,18 @@ impl<'a> Checked<'a> {
         Losses::new([torn, holes, self.late(), skipped, nameless])
     }
 
-    /// Returns the number of writers of the logs that have a header. Err: out of memory.
-    pub fn writers(&self, alloc: Global) -> Result<usize, AllocError> {
+    /// Returns the fronts of the logs that have a header. Err: out of memory.
+    pub fn fronts(&self, alloc: Global) -> Result<Vec<LogFront>, AllocError> {
         let mut fronts = Vec::with_capacity(alloc, self.logs.len())?;
         for front in self.logs.iter().filter_map(CheckedLog::front) {
             fronts.push(*front)?;
         }
-        Ok(writer_count(&fronts))
+        Ok(fronts)
+    }
+
+    /// Returns the number of writers of these logs. Err: out of memory.
+    pub fn writers(&self, alloc: Global) -> Result<usize, AllocError> {
+        Ok(writer_count(&self.fronts(alloc)?))
     }
 
     /// Returns the number of late updates, if there is a cutoff.

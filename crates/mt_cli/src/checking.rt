@@ -190,10 +190,7 @@ impl<'a, R: Host> Run<'a, R> {
         if !matches!(state, PartState::Broken { .. }) {
             return Ok(None);
         }
-        let Some(file) = self.read_again(name, u64::MAX)? else {
-            return Ok(None);
-        };
-        let Ok(bytes) = file.into_all() else {
+        let Some(bytes) = self.all_again(name)? else {
             return Ok(None);
         };
         match PartPieces::open(self.rt.alloc(), bytes)? {
@@ -217,10 +214,7 @@ impl<'a, R: Host> Run<'a, R> {
             Err(_) => return Ok((None, None)),
         }
         let alloc = self.rt.alloc();
-        let Some(file) = self.read_again(name, u64::MAX)? else {
-            return Ok((None, None));
-        };
-        let Ok(bytes) = file.into_all() else {
+        let Some(bytes) = self.all_again(name)? else {
             return Ok((None, None));
         };
         match Sealed::open(alloc, bytes) {

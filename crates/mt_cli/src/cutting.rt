@@ -2,7 +2,7 @@
 use crate::answering::PRINTED_AT_ONCE;
 use crate::halt::Halt;
 use crate::host::Host;
-use crate::intake::{LogIntake, open, unread};
+use crate::intake::{LogIntake, feed_piece, open, unread};
 use crate::request::Cut;
 use crate::salvaging::{Placed, Salvage, cut_part};
 use crate::sealed::{Piece, Sealed, TEXT_HEADER, unopened};
@@ -28,13 +28,14 @@ pub fn cut<'a, R: Host, O: Write, E: Write>(
     err: &mut E,
 ) -> Result<(), Halt<'a>> {
     let mut file = open(rt, path)?;
+    let name = is_verbose.then_some(path);
     if file.is_sealed() {
         if how.header.is_some() {
             return Err(has_its_own(rt.alloc()));
         }
         let log = Sealed::open(rt.alloc(), file.into_all().map_err(unread)?).map_err(unopened)?;
         let cutter = Cutter::new(rt.alloc(), log.front.head, how, out)?;
-        cutter.cut_sealed(&log, path, is_verbose, err)?;
+        cutter.cut_sealed(&log, name, err)?;
         return Ok(());
     }
     if how.is_skipping && how.header.is_none() && has_part_header(&file.held) {
@@ -60,7 +61,7 @@ pub fn cut<'a, R: Host, O: Write, E: Write>(
     } else {
         let log = LogIntake::new(rt.alloc(), file, head)?;
         let cutter = Cutter::new(rt.alloc(), head, how, out)?;
-        cutter.cut(log, path, is_verbose, err)?
+        cutter.cut(log, name, err)?
     };
     if has_records || how.header.is_none() {
         return Ok(());
@@ -151,8 +152,7 @@ impl<'x, O: Write> Cutter<'x, O> {
         out.write_all(&header)?;
         let feed = if head.segment.is_some() || how.end.is_some() {
             let mut feed = LogFeed::keeping(alloc);
-            // The feed keeps a fault.
-            let _ = feed.feed(&header);
+            feed_all(&mut feed, &header);
             Some(feed)
         } else {
             None
@@ -168,13 +168,12 @@ impl<'x, O: Write> Cutter<'x, O> {
         })
     }
 
-    /// Prints the records of the log, and tells on `err` what is left out, and where a segment then ends. Returns whether it
-    /// has some.
+    /// Prints the records of the log, and tells on `err` what is left out, and where a segment then ends. If there is a name,
+    /// tells what may have happened to the file. Returns whether it has some.
     fn cut<F: Read + Drop, E: Write>(
         self,
         log: LogIntake<F>,
-        path: &str,
-        is_verbose: bool,
+        name: Option<&str>,
         err: &mut E,
     ) -> Result<bool, Refusal<'static>> {
         let mut cutter = self;
@@ -187,17 +186,15 @@ impl<'x, O: Write> Cutter<'x, O> {
             }
         }
         log.read_rest()?;
-        cutter.out.flush()?;
-        let stop = Stop::of(cutter.alloc, &log)?;
-        cutter.finish(stop, path, is_verbose, err)
+        let stop = Stop::of(cutter.alloc, &log);
+        cutter.finish(stop, name, err)
     }
 
     /// Prints the records of a log of format 4, likewise.
     fn cut_sealed<E: Write>(
         self,
         log: &Sealed,
-        path: &str,
-        is_verbose: bool,
+        name: Option<&str>,
         err: &mut E,
     ) -> Result<bool, Refusal<'static>> {
         let mut cutter = self;
@@ -207,9 +204,8 @@ impl<'x, O: Write> Cutter<'x, O> {
             return cutter.salvage(&found, log.first.file_at(TEXT_HEADER), log.size(), err);
         }
         cutter.print(log.records())?;
-        cutter.out.flush()?;
-        let stop = Stop::of_sealed(cutter.alloc, log)?;
-        cutter.finish(stop, path, is_verbose, err)
+        let stop = Stop::of_sealed(cutter.alloc, log);
+        cutter.finish(stop, name, err)
     }
 
     /// Prints as many of these records as possible, in order, whose timestamps never fall, and tells on `err` what is skipped
@@ -231,26 +227,22 @@ impl<'x, O: Write> Cutter<'x, O> {
         cutter.is_cut = cutter.is_cut || all.end < size;
         all.skip_to(size)?;
         all.tell("records", err);
-        cutter.finish(None, "", false, err)
+        cutter.finish(Ok(None), None, err)
     }
 
     /// Ends the log, and tells on `err` where its records stop, if something follows that is left out, and where a segment then
     /// ends. Returns whether it has a record.
     fn finish<E: Write>(
         self,
-        stop: Option<Stop>,
-        path: &str,
-        is_verbose: bool,
+        stop: Result<Option<Stop>, Refusal<'static>>,
+        name: Option<&str>,
         err: &mut E,
     ) -> Result<bool, Refusal<'static>> {
         let mut cutter = self;
-        if let Some(stop) = stop {
+        cutter.out.flush()?;
+        if let Some(stop) = stop? {
             cutter.is_cut = true;
-            // A write error is passed over.
-            let _ = writeln!(err, "mtrecover: left out: {stop}");
-            if is_verbose {
-                stop.tell_hints(path, err);
-            }
+            stop.tell("left out: ", name, err);
         }
         cutter.mark(err)?;
         if let Some(end) = cutter.end()? {
@@ -294,10 +286,7 @@ impl<'x, O: Write> Cutter<'x, O> {
         }
         let kept = self.how.kept(self.head.format, records);
         if let Some(feed) = &mut self.feed {
-            for chunk in kept.chunks(PRINTED_AT_ONCE) {
-                let _ = feed.feed(chunk);
-                let _ = feed.drop_kept();
-            }
+            feed_all(feed, kept);
         }
         self.is_cut = kept.len() < records.len();
         self.has_records = self.has_records || !kept.is_empty();
@@ -318,7 +307,7 @@ impl<'x, O: Write> Cutter<'x, O> {
 
 /// Where a segment of a worker's log ends once it is cut.
 #[derive(Clone, Copy)]
-pub struct SegmentEnd {
+struct SegmentEnd {
     segment: Segment,
     /// Its last timestamp.
     last: u64,
@@ -326,7 +315,7 @@ pub struct SegmentEnd {
 
 impl SegmentEnd {
     /// Prints what is lost if a later segment is there. A write error is passed over.
-    pub fn tell<E: Write>(&self, err: &mut E) {
+    fn tell<E: Write>(&self, err: &mut E) {
         let SegmentEnd { segment, last } = *self;
         let Segment { worker, number } = segment;
         let _ = writeln!(
@@ -339,15 +328,18 @@ impl SegmentEnd {
 /// Returns the last timestamp of the log of this header and of these records, one list after another. Err: out of memory.
 pub fn last_of(alloc: Global, head: Head, records: &[&[u8]]) -> Result<u64, Refusal<'static>> {
     let mut feed = LogFeed::keeping(alloc);
-    // The feed keeps a fault.
-    let _ = feed.feed(&encode_head(alloc, head)?);
+    feed_all(&mut feed, &encode_head(alloc, head)?);
     for list in records {
-        for chunk in list.chunks(PRINTED_AT_ONCE) {
-            let _ = feed.feed(chunk);
-            let _ = feed.drop_kept();
-        }
+        feed_all(&mut feed, list);
     }
     last_in(&feed)
+}
+
+/// Feeds a header or records, in pieces, and keeps none of them.
+fn feed_all(feed: &mut LogFeed<KeptRecords>, bytes: &[u8]) {
+    for piece in bytes.chunks(PRINTED_AT_ONCE) {
+        let _ = feed_piece(feed, Some(piece));
+    }
 }
 
 /// Returns the last timestamp of the log that the feed has read. Err: out of memory.

@@ -102,10 +102,7 @@ fn tell_stop<E: Write>(stop: Option<Stop>, name: Option<&str>, err: &mut E) -> u
     let Some(stop) = stop else {
         return 0;
     };
-    let _ = writeln!(err, "mtrecover: {stop}");
-    if let Some(name) = name {
-        stop.tell_hints(name, err);
-    }
+    stop.tell("", name, err);
     stop.status()
 }
 

@@ -17,10 +17,7 @@ pub fn heads_for(
     log: &CheckedLog<'_>,
 ) -> Result<Vec<Head>, AllocError> {
     let mut heads = Vec::new(alloc);
-    let mut fronts = Vec::with_capacity(alloc, checked.logs.len())?;
-    for front in checked.logs.iter().filter_map(CheckedLog::front) {
-        fronts.push(*front)?;
-    }
+    let fronts = checked.fronts(alloc)?;
     if let Some(front) = log.front() {
         heads.push(without_gap(&fronts, front.head))?;
         for other in &fronts {

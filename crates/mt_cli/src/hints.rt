@@ -107,15 +107,15 @@ pub const MANY_ZEROS: usize = 64;
 
 /// Zeros in a row.
 #[derive(Clone, Copy)]
-pub struct Zeros {
+struct Zeros {
     /// The byte where they begin.
-    pub from: usize,
+    from: usize,
     /// Their number.
-    pub count: usize,
+    count: usize,
 }
 
 /// Returns the longest run of zeros in the bytes, the first of which is the byte `start`, if it has at least `MANY_ZEROS`.
-pub fn zeros_in(bytes: &[u8], start: usize) -> Option<Zeros> {
+fn zeros_in(bytes: &[u8], start: usize) -> Option<Zeros> {
     let mut longest = Zeros { from: 0, count: 0 };
     let mut run = Zeros { from: 0, count: 0 };
     for (at, byte) in bytes.iter().enumerate() {

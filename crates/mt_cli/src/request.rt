@@ -33,7 +33,7 @@ pub enum FolderCommand<'a> {
 }
 
 impl FolderCommand<'_> {
-    /// Returns whether others may read the folder meanwhile. None: and write it, since the command writes nothing.
+    /// Returns whether others may read the folder meanwhile. None: and write it, since the command changes no log and no part.
     pub fn lock(&self) -> Option<bool> {
         match self {
             FolderCommand::Resume(how) => Some(how.is_dry),
@@ -89,7 +89,7 @@ pub struct Folder<'a> {
     pub telling: Telling,
     /// Recovery cuts the keys into at most this many pieces. None: the command takes no store.
     pub pieces: Option<Pieces>,
-    /// How many writers there must be, as a report counts them. None: any number.
+    /// How many writers the server had, as a report counts them. None: any number.
     pub writers: Option<u64>,
 }
 

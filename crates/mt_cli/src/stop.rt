@@ -6,7 +6,7 @@ use crate::ending::{Again, Ending};
 use crate::hints::MANY_ZEROS;
 use crate::intake::LogIntake;
 use crate::sealed::Sealed;
-use mt_record::Rest;
+use mt_record::{LogFront, Rest};
 use mt_recover::Refusal;
 use mt_text::Listed;
 use mt_words::What;
@@ -41,35 +41,21 @@ enum Wrong {
 impl Stop {
     /// Returns where the records of a log stop that was read to its end. None: nothing follows them. Err: out of memory.
     pub fn of<F>(alloc: Global, log: &LogIntake<F>) -> Result<Option<Stop>, Refusal<'static>> {
-        let front = log.front()?;
-        let fault = match front.rest {
-            Rest::Nothing => return Ok(None),
-            Rest::Torn => Wrong::Torn,
-            Rest::Faulty(what) => Wrong::Record(what),
-        };
-        match Stop::at(alloc, log)? {
-            Some(stop) => Ok(Some(Stop {
-                reason: Some((front.count, fault)),
-                ..stop
-            })),
-            None => Ok(None),
+        let reason = reason_of(&log.front()?);
+        if reason.is_none() {
+            return Ok(None);
         }
+        Ok(Stop::at(alloc, log)?.map(|stop| Stop { reason, ..stop }))
     }
 
     /// Returns where the records of a log of format 4 stop. None: nothing follows them. Err: out of memory.
     pub fn of_sealed(alloc: Global, log: &Sealed) -> Result<Option<Stop>, Refusal<'static>> {
-        let fault = match log.front.rest {
-            Rest::Nothing => return Ok(None),
-            Rest::Torn => Wrong::Torn,
-            Rest::Faulty(what) => Wrong::Record(what),
-        };
-        match Stop::at_sealed(alloc, log, log.records_end())? {
-            Some(stop) => Ok(Some(Stop {
-                reason: Some((log.front.count, fault)),
-                ..stop
-            })),
-            None => Ok(None),
+        let reason = reason_of(&log.front);
+        if reason.is_none() {
+            return Ok(None);
         }
+        let stop = Stop::at_sealed(alloc, log, log.records_end())?;
+        Ok(stop.map(|stop| Stop { reason, ..stop }))
     }
 
     /// Returns that the records of a log of format 4 stop at this byte of its text. None: no byte follows. Err: out of memory.
@@ -126,10 +112,14 @@ impl Stop {
         }))
     }
 
-    /// Prints what may have happened to the file of this name, if it is damaged. A write error is passed over.
-    pub fn tell_hints<E: io::Write>(&self, name: &str, err: &mut E) {
+    /// Prints its line, after these words. If there is a name, prints what may have happened to the file, if that is damaged. A
+    /// write error is passed over.
+    pub fn tell<E: io::Write>(&self, before: &str, name: Option<&str>, err: &mut E) {
+        let _ = writeln!(err, "mtrecover: {before}{self}");
         let is_torn = matches!(self.reason, Some((_, Wrong::Torn)));
-        self.ending.tell_hints(!is_torn, name, err);
+        if let Some(name) = name {
+            self.ending.tell_hints(!is_torn, name, err);
+        }
     }
 
     /// Returns the exit status after all was printed: 1 if a fault follows or the part is broken, else 4.
@@ -179,6 +169,16 @@ impl Stop {
             ", whole again from byte {at} on ({records} record{s}), which points to damage"
         )
     }
+}
+
+/// Returns the number of records that a front has, and what is there in place of the next one. None: nothing follows them.
+fn reason_of(front: &LogFront) -> Option<(u64, Wrong)> {
+    let wrong = match front.rest {
+        Rest::Nothing => return None,
+        Rest::Torn => Wrong::Torn,
+        Rest::Faulty(what) => Wrong::Record(what),
+    };
+    Some((front.count, wrong))
 }
 
 /// Writes where they stop, and what follows.

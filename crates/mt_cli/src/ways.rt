@@ -20,29 +20,32 @@ use std::io::{self, Write};
 #[derive(Clone, Copy)]
 struct Way {
     name: &'static str,
-    /// Whether they go on after damage.
-    is_skipping: bool,
-    /// The header that they get. None: they keep theirs.
-    header: Option<Head>,
-    /// The timestamp of the mark that ends them. None: they get none.
-    end: Option<u64>,
+    how: Cut,
 }
 
-/// The ways to cut damaged logs.
-const WAYS: [Way; 2] = [
-    Way {
-        name: "cut",
-        is_skipping: false,
-        header: None,
-        end: None,
-    },
-    Way {
-        name: "skip",
-        is_skipping: true,
-        header: None,
-        end: None,
-    },
-];
+impl Way {
+    /// Creates a way that goes on after damage, by this header, if there is one, and ends with a mark of this timestamp, if
+    /// there is one.
+    fn skipping(name: &'static str, header: Option<Head>, end: Option<u64>) -> Way {
+        let how = Cut {
+            is_skipping: true,
+            header,
+            below: None,
+            end,
+        };
+        Way { name, how }
+    }
+
+    /// Returns the ways to cut damaged logs.
+    fn all() -> [Way; 2] {
+        let skip = Way::skipping("skip", None, None);
+        let how = Cut {
+            is_skipping: false,
+            ..skip.how
+        };
+        [Way { name: "cut", how }, skip]
+    }
+}
 
 /// What recovery would find.
 #[derive(Clone, Copy)]
@@ -73,7 +76,7 @@ impl<'a, R: Host> Run<'a, R> {
             return Ok(());
         }
         if !damaged.is_empty() {
-            for way in &WAYS {
+            for way in &Way::all() {
                 self.write_way(way, &damaged, is_json, out)?;
             }
         }
@@ -82,12 +85,7 @@ impl<'a, R: Host> Run<'a, R> {
         if early.is_empty() {
             return Ok(());
         }
-        let way = Way {
-            name: "end",
-            is_skipping: true,
-            header: None,
-            end: Some(checked.last_below_end()),
-        };
+        let way = Way::skipping("end", None, Some(checked.last_below_end()));
         self.write_way(&way, &early, is_json, out)
     }
 
@@ -111,12 +109,8 @@ impl<'a, R: Host> Run<'a, R> {
         }
         for head in &heads_for(self.rt.alloc(), checked, found)? {
             let end = head.from.saturating_add(1).max(checked.last_below_end());
-            let way = Way {
-                name: "header",
-                is_skipping: true,
-                header: Some(*head),
-                end: (!found.has_records()).then_some(end),
-            };
+            let end = (!found.has_records()).then_some(end);
+            let way = Way::skipping("header", Some(*head), end);
             self.write_way(&way, &[log], is_json, out)?;
         }
         Ok(())
@@ -131,7 +125,7 @@ impl<'a, R: Host> Run<'a, R> {
         out: &mut W,
     ) -> Result<(), Refusal<'static>> {
         let outlook = self.look_ahead(logs, way);
-        let header = match way.header {
+        let header = match way.how.header {
             Some(head) => Some(words_of(self.rt.alloc(), head)?),
             None => None,
         };
@@ -194,17 +188,11 @@ impl<'a, R: Host> Run<'a, R> {
     /// Returns the log that `cut` makes of the log of this number and name. Err: it cannot be read again, or out of memory.
     fn cut_one(&self, log: usize, name: &str, way: &Way) -> Result<Vec<u8>, Refusal<'static>> {
         let path = format!(in self.rt.alloc(); "{}/{name}", self.folder.path)?;
-        let how = Cut {
-            is_skipping: way.is_skipping,
-            header: way.header,
-            below: None,
-            end: way.end,
-        };
         let mut bytes = Vec::new(self.rt.alloc());
         match cut(
             self.rt,
             path.as_str(),
-            &how,
+            &way.how,
             false,
             &mut bytes,
             &mut io::sink(),
@@ -233,7 +221,7 @@ fn write_outlook<'x, W: Write>(
     out: &mut W,
 ) -> Result<(), Refusal<'static>> {
     let (name, logs) = (Cell::Word(way.name), Cell::Value(Value::Positions(logs)));
-    let end = Cell::Number(way.end);
+    let end = Cell::Number(way.how.end);
     let header = match header {
         Some(header) => Cell::Word(header.as_str()),
         None => Cell::Number(None),
