@@ -15,7 +15,7 @@ use Rattle.mt_c.specs.Formats.{log_number}
 use Rattle.mt_c.specs.declared.fronts.LogFront.{LogFront}
 use Rattle.mt_c.specs.declared.fronts.PartFront.{PartFront}
 
--- the bytes begin with the encoding of a value that satisfies `Is`, and C is told it
+-- the bytes begin with the encoding of a header that satisfies `Is`, and `told` is what C is told of it
 pub record Tells {H C : Type 0} (Is : H → Type 0) (spelled : H → List ℕ) (c_front : H → C) (bytes : List ℕ) (told : C) : Type 0 where
   pub head : H
   pub after : List ℕ

@@ -1,4 +1,4 @@
--- What replaces a log if a server resumes, as C is told it.
+-- What replaces a log if a server resumes, and what C is told of it.
 use Rattle.std.specs.Prelude.{◌≡◌, ◌≢◌, ◌↔◌, ◌⊎◌, ℕ, List, IsTrue}
 use Rattle.mt_record.specs.Opening.{IsSealed}
 use Rattle.mt_record.specs.Logs.{LogReading, IsReading, count_of}

@@ -184,7 +184,7 @@ impl Job {
     }
 }
 
-/// Returns so many places for tasks. Err: out of memory.
+/// Returns `count` places, each without a task. Err: out of memory.
 fn no_tasks(alloc: Global, count: usize) -> Result<Vec<Option<Task>>, Memory>
     ensures { IfOk result (λ places. places.items ≡ replicate count None) }
 {

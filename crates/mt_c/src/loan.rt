@@ -38,7 +38,7 @@ impl Shared {
         }
     }
 
-    /// Shares the crew once more. None: it is not to be shared.
+    /// Shares the crew once more. None: it cannot be shared.
     fn another(&self) -> Option<Arc<Crew>>
         ensures { IfSome result (λ crew. arc_value crew ≡ crew_in self.now) }
     {

@@ -1,4 +1,4 @@
-//! Why a keeper refuses a call, as C is told it.
+//! The status that tells C why a keeper refuses a call.
 ghost use Rattle.std.specs.Prelude.{◌≡◌, ◌≢◌, ◌∷◌, []};
 ghost use Rattle.mt_c.specs.Keepers.{writer_status, fault_status};
 ghost use Rattle.mt_c.specs.Statuses.{IsOneOf};

@@ -9,7 +9,7 @@ pub const MEMORY: u32 = 1;
 /// An argument is not lawful, or a place does not hold what the call needs.
 pub const WRONG: u32 = 2;
 
-/// There is no such key or column.
+/// There is no such key, column, pair or item.
 pub const ABSENT: u32 = 3;
 
 /// The buffer is too short. The count says how many bytes it needs.
