@@ -177,7 +177,7 @@ static void delete_parts(const std::vector<std::string> &parts, uint64_t chosen)
 }
 
 static void resume(const std::string &name, const Bytes &log, uint64_t cutoff) {
-    Bytes out(log.size() + 33);
+    Bytes out(log.size() + log.size() / 1024 + 33);
     size_t count = 0;
     mtr_resumed resumed{};
     must(mtr_resume_log(log.data(), log.size(), cutoff, 0, &resumed, out.data(), out.size(), &count) == MTR_DONE, name);

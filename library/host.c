@@ -560,7 +560,7 @@ static bool add_log(mtr_host *host, size_t number, int file, uint64_t size, bool
 static int resume(mtr_host *host, const struct left *log, uint64_t cutoff, uint64_t salt, size_t *number, size_t *size) {
     char name[NAME];
     mtr_resumed resumed;
-    size_t room = log->length + NEW;
+    size_t room = log->length + log->length / 1024 + NEW;
     uint8_t *bytes = malloc(room);
     int file = -1;
     name_log(log->worker, log->segment, name);

@@ -188,9 +188,10 @@ typedef struct mtr_resumed {
 
 /* What replaces a log if a server resumes after a recovery with this cutoff: its header, with a `from` of at most the
  * cutoff; its records below the cutoff; a mark at the cutoff; and the mark that ends the log, if it was ended. A log of
- * format 4 is replaced by a file of format 4 with this salt, a random number (mtr_log_header_4). Room for length + 33 bytes
- * is enough: a mark has 17 bytes, and it may need a block more. A new log begins with a header, with a `from` of 0, and
- * mtr_mark(cutoff, ..). DONE or SHORT: *resumed is told. Else it is as before. FAULT: the bytes are no log. Never WRONG. */
+ * format 4 is replaced by a file of format 4 with this salt, a random number (mtr_log_header_4). Each block of that file has
+ * whole records: at most 32,768 bytes of them, or one longer record. Room for length + length / 1024 + 33 bytes is enough: a
+ * mark has 17 bytes, a block 16 more than its records, and two blocks in a row more than 32,768. A new log begins with a
+ * header, with a `from` of 0, and mtr_mark(cutoff, ..). DONE or SHORT: *resumed is told. Else it is as before. FAULT: the bytes are no log. Never WRONG. */
 uint32_t mtr_resume_log(const uint8_t *log, size_t length, uint64_t cutoff, uint64_t salt, mtr_resumed *resumed,
                         uint8_t *out, size_t room, size_t *count);
 

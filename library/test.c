@@ -642,6 +642,44 @@ static void test_resume(void) {
                                    resumed.format == 3 && resumed.ended);
 }
 
+/* Returns the number at these four bytes. */
+static size_t number_at(const uint8_t *at) {
+    return (size_t)at[0] << 24 | (size_t)at[1] << 16 | (size_t)at[2] << 8 | at[3];
+}
+
+/* Whether these bytes are whole records, one after the other. */
+static int are_records(const uint8_t *bytes, size_t size) {
+    size_t at = 0;
+    while (at + 8 <= size)
+        at += number_at(bytes + at) + 8;
+    return at == size;
+}
+
+/* Forty puts of 6,032 bytes, and a mark at their end, in one block: what replaces the log has five puts in a block. */
+static void test_resume_small(void) {
+    static uint8_t body[250000], big[250100], out[250100 + 250100 / 1024 + 33];
+    static const uint8_t value[6000];
+    mtr_column column = {0, {value, sizeof value}};
+    mtr_resumed resumed;
+    uint32_t mark = 0;
+    size_t count = 0, size = 0, at = 44, blocks = 0;
+    uint64_t version;
+    for (version = 1; version <= 40; version++, size += count)
+        expect("a put", mtr_put(4, version, version, text("k"), 1, &column, 1, body + size, sizeof body - size, &count) ==
+                                MTR_DONE &&
+                            count == 6032);
+    expect("a mark", mtr_mark(41, body + size, sizeof body - size, &count) == MTR_DONE);
+    size += count;
+    expect("a header", mtr_log_header_4(7, 0, 0, 1, 0, big, sizeof big, &count, &mark) == MTR_DONE && count == 44);
+    expect("a block", mtr_seal(mark, body, size, big + 44, sizeof big - 44, &count) == MTR_DONE);
+    size = 44 + count;
+    expect("it is replaced", mtr_resume_log(big, size, 41, 8, &resumed, out, size + size / 1024 + 33, &count) == MTR_DONE &&
+                                 count == 44 + 40 * 6032 + 17 + 9 * 16);
+    for (; at < count; at += 16 + number_at(out + at + 4), blocks++)
+        expect("a small block", number_at(out + at + 4) <= 32768 && are_records(out + at + 12, number_at(out + at + 4)));
+    expect("nine blocks", at == count && blocks == 9);
+}
+
 /* A log of format 4 goes on with another salt: one of this segment that begins at 7, with a block that ends it. */
 static void test_resume_blocks(void) {
     mtr_resumed resumed = {9, 9, false, false};
@@ -1026,6 +1064,7 @@ int main(int argc, char **argv) {
     test_share();
     test_resume();
     test_resume_blocks();
+    test_resume_small();
     test_keeper();
     test_take();
     test_early();

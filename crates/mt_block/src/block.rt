@@ -10,6 +10,10 @@ use mt_crc::{crc32c, crc32c_append};
 /// The most bytes of a body.
 pub const MOST_BODY: u32 = 8_388_608;
 
+/// The most bytes of a body of a log that is written, unless one record alone has more. Damage within a block costs all of
+/// its records, so blocks are small.
+pub const SMALL_BODY: u32 = 32_768;
+
 /// The number of bytes of a head.
 const HEAD_BYTES: usize = 12;
 

@@ -29,7 +29,9 @@ mod seal;
 #[cfg(test)]
 mod tests;
 
-pub use block::{FRAME_BYTES, MOST_BODY, block_wanted, find_head, has_some_head, next_block};
+pub use block::{
+    FRAME_BYTES, MOST_BODY, SMALL_BODY, block_wanted, find_head, has_some_head, next_block,
+};
 pub use frame::{Frame, append_block, frame_of};
 pub use header::{Header, header_at};
 pub use laws::{

@@ -1,44 +1,34 @@
--- Bytes that were sealed, one piece after the other.
-use Rattle.std.proofs.Common.{◌≡◌, inl, ℕ, List, [], ◌∷◌, ◌++◌, refl, sym, ap, ◌∙◌, append_assoc}
+-- Records that were sealed in small blocks, and then marks.
+use Rattle.std.proofs.Common.{◌≡◌, inl, ℕ, List, [], ◌∷◌, ◌++◌, refl, sym, ap, ◌∙◌}
+use Rattle.std.specs.Prelude.{All}
 use Rattle.std.proofs.lemmas.List.{append-nil}
-use Rattle.std.proofs.lemmas.List.Elements.{All-append}
 use Rattle.std.proofs.lemmas.Grind.{flat_map-append}
 use Rattle.mt_block.specs.declared.header.Header.{Header}
 use Rattle.mt_block.specs.Blocks.{IsHeader, header_bytes, mark_of, block, blocks, IsBody, IsFile}
-use Rattle.mt_block.specs.Sealing.{joined, bodies_of, IsSealing}
+use Rattle.mt_block.proofs.Seals.{joined_more, blocks_more, all_more}
+use Rattle.mt_record.specs.Opening.{joined}
+use Rattle.mt_record.specs.Runs.{IsSmall}
+use Rattle.mt_record.specs.Steps.Runs.{AreSmallBlocks}
 
 pub joined-append : (bodies others : List (List ℕ)) → joined (bodies ++ others) ≡ joined bodies ++ joined others
 joined-append bodies others = flat_map-append (λ body. body) bodies others
 
-joined_of : (left : List ℕ) → joined (bodies_of left) ≡ left
-joined_of [] = refl
-joined_of (b ∷ bs) = append-nil (b ∷ bs)
-
--- the bodies of what was sealed
-abbrev pub all_bodies : {mark : ℕ} {bytes sealed : List ℕ} → IsSealing mark bytes sealed → List (List ℕ)
-all_bodies is = is.full ++ bodies_of is.left
-
-pub joined_bodies : (mark : ℕ) (bytes sealed : List ℕ) (is : IsSealing mark bytes sealed) → joined (all_bodies is) ≡ bytes
-joined_bodies mark bytes sealed is = joined-append is.full (bodies_of is.left) ∙ ap (λ (l : List ℕ). joined is.full ++ l) (joined_of is.left) ∙ sym is.joins
-
--- a header, and two pieces that were sealed one after the other, are a file
-pub sealed_file : (header : Header) (mark : ℕ) (begun one two first second : List ℕ) (more both : List ℕ) → IsHeader header → mark ≡ mark_of header → begun ≡ header_bytes header
-    → (a : IsSealing mark one first) → more ≡ begun ++ first → (b : IsSealing mark two second) → both ≡ more ++ second
-    → (bodies : List (List ℕ)) × IsFile both header bodies [] × (joined bodies ≡ one ++ two)
-sealed_file header mark begun one two first second more both is_header is_mark begins a then b last =
-    let bodies = all_bodies a ++ all_bodies b in
-    let sealed : blocks mark bodies ≡ first ++ second = flat_map-append (block mark) (all_bodies a) (all_bodies b) ∙ (λ i. sym a.spelled i ++ sym b.spelled i) in (
+-- a header, records in small blocks, and a block of marks are a file
+pub sealed_file : (header : Header) (mark : ℕ) (begun records marks sealed more both : List ℕ) → IsHeader header → mark ≡ mark_of header → begun ≡ header_bytes header
+    → AreSmallBlocks mark records sealed → more ≡ begun ++ sealed → IsBody marks → IsSmall marks → both ≡ more ++ block mark marks
+    → (bodies : List (List ℕ)) × IsFile both header bodies [] × (joined bodies ≡ records ++ marks) × All IsSmall bodies
+sealed_file header mark begun records marks sealed more both is_header is_mark begins are then is_body is_small last =
+    let bodies = are.bodies ++ marks ∷ [] in
+    let all : both ≡ begun ++ blocks mark bodies = blocks_more mark begun more both are.bodies marks (then ∙ ap (λ (l : List ℕ). begun ++ l) are.spelled) last in (
       bodies,
       record {
         begins = record {
-          spelled = last
-              ∙ ap (λ (l : List ℕ). l ++ second) (then ∙ ap (λ (l : List ℕ). l ++ first) begins)
-              ∙ append_assoc (header_bytes header) first second
-              ∙ ap (λ (l : List ℕ). header_bytes header ++ l) (sym sealed ∙ ap (λ (m : ℕ). blocks m bodies) is_mark ∙ sym (append-nil (blocks (mark_of header) bodies)));
+          spelled = all ∙ (λ i. begins i ++ (ap (λ (m : ℕ). blocks m bodies) is_mark ∙ sym (append-nil (blocks (mark_of header) bodies))) i);
           is_header = is_header;
-          are_bodies = All-append IsBody (all_bodies a) (all_bodies b) a.are_bodies b.are_bodies;
+          are_bodies = all_more IsBody are.bodies marks are.are_bodies is_body;
         };
         ends = inl refl;
       },
-      joined-append (all_bodies a) (all_bodies b) ∙ (λ i. joined_bodies mark one first a i ++ joined_bodies mark two second b i),
+      joined_more are.bodies marks ∙ ap (λ (l : List ℕ). l ++ marks) are.joins,
+      all_more IsSmall are.bodies marks are.are_small is_small,
     )

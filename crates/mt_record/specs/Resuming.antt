@@ -28,6 +28,10 @@ below cutoff records = filter (λ r. nat_lt r.timestamp cutoff) records
 abbrev pub updates_past : ℕ → List Logged → List Logged
 updates_past cutoff records = filter (λ r. nat_le cutoff r.timestamp && not (is_mark r)) records
 
+-- the marks at or past a timestamp, without the mark that ends a log
+abbrev pub marks_past : ℕ → List Logged → List Logged
+marks_past cutoff records = filter (λ r. nat_le cutoff r.timestamp && (is_mark r && not (is_end r))) records
+
 -- the marks of a resumed log: one at the cutoff and, if the log was ended, the mark that ends it again, unless the first is that mark
 abbrev pub marks_of : ℕ → List Logged → List Logged
 marks_of cutoff records = mark_of cutoff ∷ (if is_ended records && nat_lt cutoff greatest_timestamp then mark_of greatest_timestamp ∷ [] else [])

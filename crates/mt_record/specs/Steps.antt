@@ -7,6 +7,7 @@ pub mod Kept
 pub mod Texts
 pub mod Streams
 pub mod Splits
+pub mod Runs
 pub mod Salvages
 pub mod Climbs
 pub mod Telling

@@ -31,6 +31,7 @@ mod part_front;
 mod part_text;
 mod read;
 mod resume;
+mod runs;
 mod salvage;
 
 pub use body::lent::Lent;

@@ -1,5 +1,5 @@
 //! What replaces a log when a server resumes after a crash.
-ghost use Rattle.std.specs.Prelude.{◌≡◌, ◌≢◌, ◌+◌, ◌<◌, ◌^◌, ◌↔◌, ◌⊎◌, ◌∷◌, ◌++◌, [], List, ℕ, min, length, IsTrue, IfOk, IfErr};
+ghost use Rattle.std.specs.Prelude.{◌≡◌, ◌≢◌, ◌+◌, ◌<◌, ◌≤◌, ◌^◌, ◌↔◌, ◌⊎◌, ◌∷◌, ◌++◌, [], List, ℕ, min, length, All, IsTrue, IfOk, IfErr};
 ghost use Rattle.std.specs.List.{flat_map};
 ghost use Rattle.mt_words.specs.Changes.{Logged};
 ghost use Rattle.mt_block.specs.Blocks.{IsHeader, IsFile};
@@ -11,7 +11,9 @@ ghost use Rattle.mt_record.specs.Logs.{LogReading, IsReading, count_of};
 ghost use Rattle.mt_record.specs.LogFaults.{IsTextFault};
 ghost use Rattle.mt_record.specs.Answered.{IsAnswered, IsTextAnswered};
 ghost use Rattle.mt_record.specs.Decoding.{IsBody, decode};
-ghost use Rattle.mt_record.specs.Resuming.{is_end, is_ended, updates_past, marks_of, resumed, IsResumed, Replaces};
+ghost use Rattle.mt_record.specs.Resuming.{is_end, is_ended, updates_past, marks_past, marks_of, resumed, IsResumed, Replaces};
+ghost use Rattle.mt_record.specs.Runs.{IsSmall, HasSmallBlocks};
+ghost use Rattle.mt_record.specs.Steps.Runs.{AreFitting};
 ghost use Rattle.mt_record.specs.Steps.Splits.{IsSplitOf, IsSplitIn};
 
 use crate::body::spelled;
@@ -21,7 +23,8 @@ use crate::feed::head::{Head, header_at};
 use crate::front::Rest;
 use crate::open::{FileEnd, open_file};
 use crate::read::{FeedFault, log_front};
-use mt_block::{Header, append_blocks};
+use crate::runs::append_small_blocks;
+use mt_block::{Header, append_block};
 use mt_words::{Format, Memory, Record};
 use std::alloc::Global;
 
@@ -36,6 +39,9 @@ pub struct ResumedLog<'a> {
     pub marks: Vec<u8>,
     /// The number of updates at or past the cutoff, which go, counted up to 2^64 - 1.
     pub dropped: u64,
+    /// The number of marks at or past the cutoff, which go, without the mark that ends a log, counted up to 2^64 - 1. A
+    /// crash leaves few of them. Many show that another log was cut short.
+    pub late_marks: u64,
     /// Whether the bytes differ from those of the log. A file of format 4 is always written anew.
     pub changed: bool,
     /// Whether a mark ends the log that replaces it.
@@ -43,8 +49,9 @@ pub struct ResumedLog<'a> {
 }
 
 /// Returns what replaces this log when a server resumes after a recovery that found this cutoff. All logs are replaced
-/// before the server appends again. A file of format 4 is replaced by one with this salt, which no other file has. Of
-/// other formats the records are not copied.
+/// before the server appends again. A file of format 4 is replaced by one with this salt, which no other file has. Each
+/// block of the new file has whole records: at most 32,768 bytes of them, or one longer record. Of other formats the records
+/// are not copied.
 /// Err: the one fault of the bytes, or `Memory` if an allocation failed.
 ///
 /// ```
@@ -60,8 +67,11 @@ pub fn resume_log(
     salt: u64,
 ) -> Result<ResumedLog<'_>, FeedFault>
     ensures log { IfOk result (λ new. Replaces cutoff salt bytes.now (new.front.items ++ (new.records.now ++ new.marks.items))) }
+    ensures small { IfOk result (λ new. IsSealed bytes.now → HasSmallBlocks (new.front.items ++ (new.records.now ++ new.marks.items))) }
     ensures dropped { IfOk result (λ new. (log : LogReading) → IsReading bytes.now log →
         new.dropped ≡ count_of (updates_past cutoff log.records)) }
+    ensures late_marks { IfOk result (λ new. (log : LogReading) → IsReading bytes.now log →
+        new.late_marks ≡ count_of (marks_past cutoff log.records)) }
     ensures changed { IfOk result (λ new. IsTrue new.changed ↔
         (IsSealed bytes.now ⊎ (new.front.items ++ (new.records.now ++ new.marks.items) ≢ bytes.now))) }
     ensures ended { IfOk result (λ new. (log : LogReading) → IsReading bytes.now log →
@@ -86,6 +96,7 @@ pub fn resume_log(
         records: &[],
         marks: Vec::new(alloc),
         dropped: text.dropped,
+        late_marks: text.late_marks,
         changed: true,
         ended: text.ended,
     })
@@ -97,8 +108,12 @@ fn resume_text(alloc: Global, text: &[u8], cutoff: u64) -> Result<ResumedLog<'_>
     ensures log { IfOk result (λ new. IsResumed cutoff text.now (new.front.items ++ (new.records.now ++ new.marks.items))) }
     ensures header { IfOk result (λ new. (head : HeadValue) (rest : List ℕ) → IsHead head → text.now ≡ head_bytes head ++ rest →
         new.front.items ≡ head_bytes (record head { from = min head.from cutoff })) }
+    ensures records { IfOk result (λ new. AreFitting new.records.now) }
+    ensures marks { IfOk result (λ new. IsSmall new.marks.items × (length new.marks.items ≤ 34)) }
     ensures dropped { IfOk result (λ new. (log : LogReading) → IsReading text.now log →
         new.dropped ≡ count_of (updates_past cutoff log.records)) }
+    ensures late_marks { IfOk result (λ new. (log : LogReading) → IsReading text.now log →
+        new.late_marks ≡ count_of (marks_past cutoff log.records)) }
     ensures changed { IfOk result (λ new.
         IsTrue new.changed ↔ (new.front.items ++ (new.records.now ++ new.marks.items) ≢ text.now)) }
     ensures ended { IfOk result (λ new. (log : LogReading) → IsReading text.now log →
@@ -119,20 +134,23 @@ fn resume_text(alloc: Global, text: &[u8], cutoff: u64) -> Result<ResumedLog<'_>
         records,
         marks,
         dropped: split.dropped,
+        late_marks: split.late_marks,
         changed,
         ended: split.ended || cutoff == u64::MAX,
     })
 }
 
-/// Returns the file of format 4 with this header, and these records and marks in blocks. Err: out of memory.
+/// Returns the file of format 4 with this header, and these records and marks in small blocks. Err: out of memory.
 fn seal_log(alloc: Global, header: Header, records: &[u8], marks: &[u8]) -> Result<Vec<u8>, Memory>
-    requires { IsHeader header }
-    ensures { IfOk result (λ file. (bodies : List (List ℕ)) × IsFile file.items header bodies [] × (joined bodies ≡ records.now ++ marks.now)) }
+    requires header { IsHeader header }
+    requires records { AreFitting records.now }
+    requires marks { IsSmall marks.now × (length marks.now ≤ 34) }
+    ensures { IfOk result (λ file. (bodies : List (List ℕ)) × IsFile file.items header bodies [] × (joined bodies ≡ records.now ++ marks.now) × All IsSmall bodies) }
 {
     let mark = header.mark();
     let mut file = header.bytes(alloc)?;
-    append_blocks(mark, records, &mut file)?;
-    append_blocks(mark, marks, &mut file)?;
+    append_small_blocks(mark, records, &mut file)?;
+    append_block(mark, marks, &mut file)?;
     Ok(file)
 }
 
@@ -161,6 +179,8 @@ struct Split {
     kept: usize,
     /// The number of updates at or past it, counted up to 2^64 - 1.
     dropped: u64,
+    /// The number of marks at or past it, without the mark that ends the log, counted up to 2^64 - 1.
+    late_marks: u64,
     /// Whether a mark ends the log.
     ended: bool,
 }
@@ -175,6 +195,7 @@ fn split_records(format: Format, cutoff: u64, bytes: &[u8]) -> Result<Split, Fee
     let mut split = Split {
         kept: 0,
         dropped: 0,
+        late_marks: 0,
         ended: false,
     };
     let mut rest = bytes;
@@ -203,7 +224,8 @@ impl Split {
         ensures { (records : List Logged) (r : Logged) → decode body.now ≡ r → timestamp ≡ r.timestamp → size ≡ length (spelling r) →
             IsSplitOf cutoff records self → IsSplitOf cutoff (records ++ r ∷ []) result }
     {
-        let ended = self.ended || is_end(timestamp, body);
+        let is_last = is_end(timestamp, body);
+        let ended = self.ended || is_last;
         if timestamp < cutoff {
             return Split {
                 kept: self.kept + size,
@@ -211,8 +233,15 @@ impl Split {
                 ..self
             };
         }
-        if spelled::is_mark(body) {
+        if is_last {
             return Split { ended, ..self };
+        }
+        if spelled::is_mark(body) {
+            return Split {
+                late_marks: self.late_marks.saturating_add(1),
+                ended,
+                ..self
+            };
         }
         Split {
             dropped: self.dropped.saturating_add(1),

@@ -7,12 +7,13 @@ use Rattle.mt_words.specs.Changes.{Logged}
 use Rattle.mt_record.specs.declared.resume.Split.{Split}
 use Rattle.mt_record.specs.Spelling.{spelling}
 use Rattle.mt_record.specs.Logs.{AreRecords, IsTorn, count_of}
-use Rattle.mt_record.specs.Resuming.{is_ended, below, updates_past}
+use Rattle.mt_record.specs.Resuming.{is_ended, below, updates_past, marks_past}
 
--- the split has the number of bytes of the records below the cutoff, that of the updates at or past it, and whether the log is ended
+-- the split has the number of bytes of the records below the cutoff, those of the updates and of the marks at or past it, and whether the log is ended
 pub record IsSplitOf (cutoff : ℕ) (records : List Logged) (split : Split) : Type 0 where
   pub kept : split.kept ≡ length (flat_map spelling (below cutoff records))
   pub dropped : split.dropped ≡ count_of (updates_past cutoff records)
+  pub late_marks : split.late_marks ≡ count_of (marks_past cutoff records)
   pub ended : split.ended ≡ is_ended records
 
 -- the bytes are lawful records and perhaps a torn tail, and this is their split

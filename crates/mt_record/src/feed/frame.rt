@@ -15,6 +15,7 @@ ghost use Rattle.mt_record.specs.LogFaults.{RestFault};
 ghost use Rattle.mt_record.specs.PartTexts.{IsEntryLength};
 ghost use Rattle.mt_record.specs.PartFeeding.{ShowsNoEntry};
 ghost use Rattle.mt_record.specs.Steps.Bodies.{IsNextBody, IsNextEntry, IsWithin, IsFrame, IsFrameFault};
+ghost use Rattle.mt_record.specs.Steps.Runs.{IsWanted};
 
 use crate::body::check::{check_body, check_entry};
 use crate::body::fields::u32_at;
@@ -73,7 +74,9 @@ pub fn next_entry(format: Format, bytes: &[u8]) -> Result<Option<(&[u8], &[u8])>
 
 /// Returns how many bytes the unfinished frame in `held` asks for: 4, for the length that begins it, and once that
 /// length is held, the number of bytes of the complete frame.
-pub fn frame_wanted(held: &[u8]) -> usize {
+pub fn frame_wanted(held: &[u8]) -> usize
+    ensures { IsWanted held.now result }
+{
     match u32_at(held) {
         Some((length, _)) => (length as usize).saturating_add(8),
         None => 4,

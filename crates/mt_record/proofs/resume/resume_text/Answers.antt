@@ -1,4 +1,4 @@
-use Rattle.std.proofs.Common.{◌≡◌, ◌≢◌, ◌↔◌, ◌∙◌, ◌^◌, ◌<◌, ◌++◌, inl, inr, List, ℕ, ap, sym, arith}
+use Rattle.std.proofs.Common.{◌≡◌, ◌≢◌, ◌↔◌, ◌∙◌, ◌^◌, ◌<◌, ◌++◌, inl, inr, List, ℕ, length, ap, sym, arith}
 use Rattle.std.specs.Prelude.{IsTrue, ◌==◌, ◌||◌, min, Bool}
 use Rattle.std.specs.Cmp.Lexicographic.{same_text}
 use Rattle.std.proofs.lemmas.Bool.{cases_Bool, not-false}
@@ -7,7 +7,8 @@ use Rattle.std.proofs.lemmas.Grind.{common_steps}
 use Rattle.mt_record.specs.Heads.{head_bytes}
 use Rattle.mt_record.specs.Logs.{LogReading, count_of}
 use Rattle.mt_record.specs.declared.feed.head.Head.{Head}
-use Rattle.mt_record.specs.Resuming.{greatest_timestamp, is_ended, updates_past, resumed}
+use Rattle.mt_record.specs.Resuming.{greatest_timestamp, is_ended, below, updates_past, marks_past, marks_of, resumed}
+use Rattle.mt_record.proofs.RunLemmas.{below_fit, marks_few}
 use Rattle.mt_record.proofs.OneLog.{same_head}
 use Rattle.mt_record.proofs.OneReading.{one_reading_of}
 use Rattle.mt_record.proofs.Splits.{split_log, kept_bytes, split_resumed, unchanged, as_before, ended_resumed}
@@ -30,6 +31,28 @@ returns-clause-dropped c log is_log =
     let is = c.in_ok-split.ensures.split in
     let reading = split_log c.args.text.now c.in-Some.rest.now c.in-Some.head c.args.cutoff c.in_ok-split.split c.in-Some.ensures.found.0 c.in-Some.ensures.found.1 is in
     is.is_split.dropped ∙ ap (λ (l : LogReading). count_of (updates_past c.args.cutoff l.records)) (one_reading_of c.args.text.now _ log reading is_log)
+
+pub returns-clause-late_marks : goal.returns-clause-late_marks
+returns-clause-late_marks c log is_log =
+    let is = c.in_ok-split.ensures.split in
+    let reading = split_log c.args.text.now c.in-Some.rest.now c.in-Some.head c.args.cutoff c.in_ok-split.split c.in-Some.ensures.found.0 c.in-Some.ensures.found.1 is in
+    is.is_split.late_marks ∙ ap (λ (l : LogReading). count_of (marks_past c.args.cutoff l.records)) (one_reading_of c.args.text.now _ log reading is_log)
+
+pub returns-clause-records : goal.returns-clause-records
+returns-clause-records c =
+    let head = c.in-Some.head in
+    let is = c.in_ok-split.ensures.split in record {
+      records = below c.args.cutoff is.records;
+      spelled = c.split_at.ensures.front ∙ (kept_bytes head c.args.cutoff c.in-Some.rest.now c.in_ok-split.split is).1;
+      fit = below_fit head.format c.args.cutoff 0 is.records is.lawful;
+    }
+
+pub returns-clause-marks : goal.returns-clause-marks
+returns-clause-marks c =
+    let is = c.in_ok-split.ensures.split in
+    let spelled = c.in_ok-marks.ensures is.records is.is_split.ended in
+    let few = marks_few c.args.cutoff is.records in
+    (record { records = marks_of c.args.cutoff is.records; spelled = spelled; small = inl (omega (arith, ap length spelled, few)) }, omega (arith, ap length spelled, few))
 
 pub returns-clause-changed : goal.returns-clause-changed
 returns-clause-changed c =
