@@ -120,6 +120,7 @@ report_is facts report pairs survivors early layers found same before count =
         ends = found.ends;
         last = found.last;
         version = found.version;
+        version_below_cutoff = found.version_below_cutoff;
         cutoff = found.cutoff;
         checkpoint = found.checkpoint;
         begin = found.begin;

@@ -162,12 +162,13 @@ pub all_first : (kept : OneLog) → first_of kept (length kept.records) ≡ kept
 all_first kept = ap (updates_from kept.log 0) (take_all (length kept.records) kept.records (omega arith))
 
 -- one record more
+pub first_push : (kept : OneLog) (i : ℕ) (d : Logged) → i < length kept.records → first_of kept (i + 1) ≡ first_of kept i ++ update_of kept.log i (get_or kept.records i d)
+first_push kept i d below =
+    ap (updates_from kept.log 0) (take_more kept.records i d below)
+    ∙ updates_push kept.log 0 i (take i kept.records) (get_or kept.records i d) (omega (arith, length-take-le i kept.records (omega (arith, below))))
+
 pub first_step : (kept : OneLog) (i : ℕ) (more : List Update) → i < length kept.records → ((d : Logged) → more ≡ update_of kept.log i (get_or kept.records i d)) → first_of kept (i + 1) ≡ first_of kept i ++ more
-first_step kept i more below is =
-    let r : Logged = get_or kept.records i (mark_of 0) in
-    ap (updates_from kept.log 0) (take_more kept.records i (mark_of 0) below)
-    ∙ updates_push kept.log 0 i (take i kept.records) r (omega (arith, length-take-le i kept.records (omega (arith, below))))
-    ∙ ap (λ (us : List Update). first_of kept i ++ us) (sym (is (mark_of 0)))
+first_step kept i more below is = first_push kept i (mark_of 0) below ∙ ap (λ (us : List Update). first_of kept i ++ us) (sym (is (mark_of 0)))
 
 -- the scans of one log more
 pub scans_step : (scans : List LogScan) (i : ℕ) (scan : LogScan) → i < length scans → scan ≡ get_or scans i scan → updates_in (take i scans) ++ kept_updates scan.updates ≡ updates_in (take (i + 1) scans)

@@ -14,7 +14,7 @@ use Rattle.mt_replay.specs.Survivors.{is_early}
 use Rattle.mt_scan.specs.Segments.{is_first_file}
 use Rattle.mt_recover.specs.Holes.{has_hole}
 use Rattle.mt_recover.specs.Recovery.{records_of, begin_of, entry_updates, survivors}
-use Rattle.mt_recover.specs.Report.{all_records, all_versions, logged_updates, is_late, end_of, Outcome, IsRecoveredOf}
+use Rattle.mt_recover.specs.Report.{all_records, all_versions, versions_below, logged_updates, is_late, end_of, Outcome, IsRecoveredOf}
 use Rattle.mt_recover.specs.Laws.{SaysTheSame}
 use Rattle.mt_tree.specs.Layers.{CountsLayers}
 use Rattle.mt_tree.proofs.Uniques.{one_count}
@@ -80,6 +80,7 @@ one_report logs parts outcome other is too =
         ends = outcome.report.ends;
         last = one_greatest (flat_map times_of is.store.basis.facts.readings) (flat_map times_of too.store.basis.facts.readings) outcome.report.last other.report.last (ap (flat_map times_of) same.0) a.last b.last i;
         version = one_greatest (0 ∷ all_versions is.store.basis.facts.readings is.store.basis.facts.chosen) (0 ∷ all_versions too.store.basis.facts.readings too.store.basis.facts.chosen) outcome.report.version other.report.version (λ j. 0 ∷ all_versions (same.0 j) (same.3 j)) a.version b.version i;
+        version_below_cutoff = one_greatest (0 ∷ versions_below is.store.basis.facts.cutoff is.store.basis.facts.readings is.store.basis.facts.chosen) (0 ∷ versions_below too.store.basis.facts.cutoff too.store.basis.facts.readings too.store.basis.facts.chosen) outcome.report.version_below_cutoff other.report.version_below_cutoff (λ j. 0 ∷ versions_below (same.1 j) (same.0 j) (same.3 j)) a.version_below_cutoff b.version_below_cutoff i;
         cutoff = (a.cutoff ∙ same.1 ∙ sym b.cutoff) i;
         checkpoint = (a.checkpoint ∙ ap (option_map (λ (x : CheckpointReading). x.number)) same.3 ∙ sym b.checkpoint) i;
         begin = (a.begin ∙ ap begin_of same.3 ∙ sym b.begin) i;

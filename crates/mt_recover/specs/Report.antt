@@ -1,5 +1,5 @@
 -- What recovery reports: the counts of what it found, and of what became of it.
-use Rattle.std.specs.Prelude.{◌≡◌, ℕ, Bool, nat_le, Option, List, ◌∷◌, ◌++◌, length, filter, map}
+use Rattle.std.specs.Prelude.{◌≡◌, ℕ, Bool, nat_le, nat_lt, Option, List, ◌∷◌, ◌++◌, length, filter, map}
 use Rattle.std.specs.List.{flat_map}
 use Rattle.std.specs.Option.{option_map}
 use Rattle.mt_words.specs.declared.update.Update.{Update}
@@ -26,9 +26,21 @@ logged_updates readings = log_updates (records_of readings)
 abbrev pub is_late : ℕ → Update → Bool
 is_late cutoff update = nat_le cutoff update.timestamp
 
+-- the update's timestamp is below the cutoff
+abbrev pub is_below : ℕ → Update → Bool
+is_below cutoff update = nat_lt update.timestamp cutoff
+
+-- the versions of updates
+abbrev pub versions : List Update → List ℕ
+versions updates = map (λ update. update.stamp.version) updates
+
 -- the versions of the puts, removes and erases of all logs, and of the entries of the chosen checkpoint
 abbrev pub all_versions : List LogReading → Option CheckpointReading → List ℕ
-all_versions readings chosen = map (λ update. update.stamp.version) (logged_updates readings ++ entry_updates chosen)
+all_versions readings chosen = versions (logged_updates readings ++ entry_updates chosen)
+
+-- the same without what is at or after the cutoff
+abbrev pub versions_below : ℕ → List LogReading → Option CheckpointReading → List ℕ
+versions_below cutoff readings chosen = versions (filter (is_below cutoff) (logged_updates readings) ++ entry_updates chosen)
 
 -- where the complete records of a log end: the number of bytes of its header and of these records, or 2^64 - 1 if there are more; in a file of format 4, those of its text
 abbrev pub end_of : LogReading → ℕ
@@ -45,6 +57,7 @@ pub record IsFoundIn {log_bytes part_bytes : List (List ℕ)} (facts : Facts log
   pub ends : report.ends.items ≡ map end_of facts.readings
   pub last : IsGreatestOf (flat_map times_of facts.readings) report.last
   pub version : IsGreatestOf (0 ∷ all_versions facts.readings facts.chosen) report.version
+  pub version_below_cutoff : IsGreatestOf (0 ∷ versions_below facts.cutoff facts.readings facts.chosen) report.version_below_cutoff
   pub cutoff : report.cutoff ≡ facts.cutoff
   pub checkpoint : report.checkpoint ≡ option_map (λ checkpoint. checkpoint.number) facts.chosen
   pub begin : report.begin ≡ begin_of facts.chosen

@@ -43,6 +43,7 @@ mod report;
 mod report_text;
 mod scans;
 mod store;
+mod versions;
 mod workers;
 mod working;
 

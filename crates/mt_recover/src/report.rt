@@ -2,19 +2,14 @@
 ghost use Rattle.std.specs.Prelude.{◌≡◌, List, ℕ, length, map, sum_by, IfOk};
 ghost use Rattle.std.specs.Fn.{FnReturnsAt};
 ghost use Rattle.std.specs.Option.{option_map};
-ghost use Rattle.mt_record.specs.Logs.{LogReading};
-ghost use Rattle.mt_record.specs.LogTexts.{greatest};
 ghost use Rattle.mt_scan.specs.Choosing.{checkpoint_in};
-ghost use Rattle.mt_scan.specs.PartsShown.{shown_by_all};
-ghost use Rattle.mt_scan.specs.Steps.Checkpoints.{entries_of};
-ghost use Rattle.mt_scan.specs.Scans.{HaveNumbersOf};
-ghost use Rattle.mt_recover.specs.Report.{IsFoundIn, all_versions};
-ghost use Rattle.mt_recover.specs.Steps.Preparing.{IsFoundOf, entry_versions};
+ghost use Rattle.mt_recover.specs.Report.{IsFoundIn};
+ghost use Rattle.mt_recover.specs.Steps.Preparing.{IsFoundOf};
 ghost use Rattle.mt_recover.specs.Recovery.{entry_updates};
 
 use crate::found::{Found, Start};
 use crate::holes::hole_count;
-use mt_record::{KeptEntries, PartText};
+use crate::versions::{greatest_of, version_of_checkpoint, version_of_logs, version_of_logs_below};
 use mt_scan::{Checkpoint, Choice, LogScan, writer_count};
 use mt_words::Memory;
 use std::alloc::Global;
@@ -43,6 +38,9 @@ pub struct Report {
     /// The greatest version of all complete records of the logs, early and late ones included, and of the entries of the
     /// chosen checkpoint, or 0 if there is none.
     pub version: u64,
+    /// The greatest version of the updates of the logs below the cutoff, early ones included, and of the entries of the
+    /// chosen checkpoint, or 0 if there is none. No survivor has a greater one.
+    pub version_below_cutoff: u64,
     /// The timestamp below which updates survive.
     pub cutoff: u64,
     /// The number of the chosen checkpoint, if there is one.
@@ -91,6 +89,7 @@ impl Report {
             skipped,
             nameless,
         } = choice;
+        let entered = version_of_checkpoint(&chosen);
         let report = Report {
             logs: scans.len(),
             writers: writer_count(&fronts),
@@ -99,7 +98,8 @@ impl Report {
             torn: scans.iter().filter(|scan| scan.front.torn()).count(),
             ends: ends_of(alloc, &scans)?,
             last: greatest_of(&scans, |scan| scan.front.last()),
-            version: version_of(&scans, &chosen),
+            version: version_of_logs(&scans).max(entered),
+            version_below_cutoff: version_of_logs_below(&scans, window.cutoff).max(entered),
             cutoff: window.cutoff,
             checkpoint: chosen.as_ref().map(|checkpoint| checkpoint.number),
             begin: window.begin,
@@ -135,54 +135,6 @@ fn ends_of(alloc: Global, scans: &[LogScan]) -> Result<Vec<u64>, Memory>
     ensures { IfOk result (λ ends. ends.items ≡ map (λ scan. scan.front.bytes) scans.now) }
 {
     Ok(scans.iter().map(|scan| scan.front.bytes).collect(alloc)?)
-}
-
-/// Returns the greatest version of the scanned logs and of the entries of the checkpoint, or 0 if there is none.
-fn version_of(scans: &[LogScan], chosen: &Option<Checkpoint>) -> u64
-    ensures { (logs : List LogReading) → HaveNumbersOf scans.now logs →
-        result ≡ greatest (all_versions logs (option_map checkpoint_in chosen.now)) }
-{
-    let logged = greatest_of(scans, |scan| scan.front.version);
-    match chosen {
-        Some(checkpoint) => logged.max(version_of_parts(&checkpoint.parts)),
-        None => logged,
-    }
-}
-
-/// Returns the greatest version of the entries of these parts, or 0 if there is none.
-fn version_of_parts(parts: &[PartText<KeptEntries>]) -> u64
-    ensures { result ≡ greatest (entry_versions (entries_of (shown_by_all parts.now))) }
-{
-    greatest_of(
-        parts,
-        |part: &PartText<KeptEntries>| -> u64
-            ensures { result ≡ greatest (entry_versions part.now.entries) }
-        { version_of_entries(&part.entries) },
-    )
-}
-
-/// Returns the greatest version of these entries, or 0 if there is none.
-fn version_of_entries(entries: &KeptEntries) -> u64
-    ensures { result ≡ greatest (entry_versions entries.now) }
-{
-    let mut version = 0;
-    for number in 0..entries.len() {
-        version = entries.update(number).stamp().version.max(version);
-    }
-    version
-}
-
-/// Returns the greatest of a number of each item, or 0 if there is no item.
-fn greatest_of<T, F: Fn(&T) -> u64>(items: &[T], number: F) -> u64
-    requires { F.IsAlwaysCallable number }
-    ensures { (of : T → ℕ) → ((x : T) (n : ℕ) → FnReturnsAt F.Fn number x n → n ≡ of x) →
-        result ≡ greatest (map of items.now) }
-{
-    let mut most = 0;
-    for item in items {
-        most = number(item).max(most);
-    }
-    most
 }
 
 /// Counts the entries of the checkpoint: 0 without one.

@@ -1,4 +1,4 @@
-use Rattle.std.proofs.Common.{◌≡◌, ◌∙◌, List, Option, ◌∷◌, length, map, sym, ap, subst, rules, tests}
+use Rattle.std.proofs.Common.{◌≡◌, ◌∙◌, ℕ, List, Option, ◌∷◌, length, map, sym, ap, subst, rules, tests, arith}
 use Rattle.std.specs.Prelude.{◌↔◌, IsTrue}
 use Rattle.std.specs.List.{filter, flat_map, sum_by}
 use Rattle.std.proofs.lemmas.Iterator.{YieldsList-from_slice}
@@ -16,8 +16,9 @@ use Rattle.mt_scan.specs.Choice.{CheckpointReading}
 use Rattle.mt_replay.specs.declared.window.Window.{Window}
 use Rattle.mt_recover.specs.Holes.{has_hole}
 use Rattle.mt_recover.specs.Recovery.{entry_updates}
-use Rattle.mt_recover.specs.Report.{all_versions}
-use Rattle.mt_recover.proofs.VersionLemmas.{greatest_is}
+use Rattle.mt_recover.specs.Report.{versions, is_below, logged_updates, all_versions, versions_below}
+use Rattle.mt_recover.specs.Steps.LogScans.{ShowAll}
+use Rattle.mt_recover.proofs.VersionLemmas.{greatest_is, greatest_both}
 use Rattle.mt_recover.proofs.ReportLemmas.{as_many, records_counted, marks_counted, is_torn, torn_is, torn_counted, ends_are, last_is, numbers_of, fronts_show, same_number}
 use Rattle.mt_recover.proofs.report.Report.of.Goals as goal
 
@@ -39,6 +40,8 @@ returns-clause-report c =
     λ logs parts is.
     let numbers = numbers_of is.start.basis.facts.cutoff 0 scans is.start.basis.facts.readings is.show in
     let fronts = subst (λ (fs : List LogFront). ShowFronts fs is.start.basis.facts.readings) (sym is.fronts) (fronts_show scans is.start.basis.facts.readings numbers) in
+    let entered : c.version_of_checkpoint-entered.result ≡ greatest (versions (entry_updates is.start.basis.facts.chosen)) =
+    c.version_of_checkpoint-entered.ensures ∙ ap (λ (o : Option CheckpointReading). greatest (versions (entry_updates o))) is.start.chosen in
     record {
       writers = (rw c.deref.ensures.value at c.writer_count.ensures) is.start.basis.facts.readings fronts;
       logs = logs_are ∙ as_many logs scans is.start.basis.facts.readings is.start.basis.facts.read numbers;
@@ -48,10 +51,20 @@ returns-clause-report c =
       ends = ends ∙ ends_are scans is.start.basis.facts.readings numbers;
       last = subst (IsGreatestOf (flat_map times_of is.start.basis.facts.readings)) (sym last) (last_is scans is.start.basis.facts.readings is.start.basis.facts.cutoff numbers is.start.basis.facts.is_cutoff);
       version =
-          let chosen = is.start.basis.facts.chosen in
-          let version : c.version_of.result ≡ greatest (all_versions is.start.basis.facts.readings chosen) =
-          (rw c.deref-7.ensures.value at c.version_of.ensures) is.start.basis.facts.readings numbers ∙ ap (λ (o : Option CheckpointReading). greatest (all_versions is.start.basis.facts.readings o)) is.start.chosen in
-          subst (IsGreatestOf (0 ∷ all_versions is.start.basis.facts.readings chosen)) (sym version) (greatest_is (all_versions is.start.basis.facts.readings chosen));
+          let all = all_versions is.start.basis.facts.readings is.start.basis.facts.chosen in
+          let logged = (rw c.deref-7.ensures.value at c.version_of_logs.ensures) is.start.basis.facts.readings numbers in
+          let both = greatest_both (logged_updates is.start.basis.facts.readings) (entry_updates is.start.basis.facts.chosen) in
+          let version : c.max.result ≡ greatest all = omega (arith, c.max.ensures, logged, entered, both) in
+          subst (IsGreatestOf (0 ∷ all)) (sym version) (greatest_is all);
+      version_below_cutoff =
+          let all = versions_below is.start.basis.facts.cutoff is.start.basis.facts.readings is.start.basis.facts.chosen in
+          let at : found.start.window.cutoff ≡ is.start.basis.facts.cutoff = ap (λ (w : Window). w.cutoff) is.start.window in
+          let logged : c.version_of_logs_below.result ≡ greatest (versions (filter (is_below is.start.basis.facts.cutoff) (logged_updates is.start.basis.facts.readings))) =
+          (rw c.deref-8.ensures.value at c.version_of_logs_below.ensures) logs is.start.basis.facts.readings is.start.basis.facts.read (subst (λ (n : ℕ). ShowAll n 0 scans is.start.basis.facts.readings) (sym at) is.show)
+          ∙ ap (λ (n : ℕ). greatest (versions (filter (is_below n) (logged_updates is.start.basis.facts.readings)))) at in
+          let both = greatest_both (filter (is_below is.start.basis.facts.cutoff) (logged_updates is.start.basis.facts.readings)) (entry_updates is.start.basis.facts.chosen) in
+          let version : c.max-2.result ≡ greatest all = omega (arith, c.max-2.ensures, logged, entered, both) in
+          subst (IsGreatestOf (0 ∷ all)) (sym version) (greatest_is all);
       cutoff = ap (λ (w : Window). w.cutoff) is.start.window;
       checkpoint = number ∙ same_number found.start.choice.chosen ∙ ap (λ (o : Option CheckpointReading). option_map (λ (checkpoint : CheckpointReading). checkpoint.number) o) is.start.chosen;
       begin = ap (λ (w : Window). w.begin) is.start.window;
@@ -59,7 +72,7 @@ returns-clause-report c =
       nameless = is.start.nameless;
       holes =
           let holes : c.hole_count.result ≡ length (filter (has_hole found.start.window is.start.basis.facts.readings) is.start.basis.facts.readings) =
-          (rw c.deref-8.ensures.value at c.hole_count.ensures) is.start.basis.facts.readings fronts in
+          (rw c.deref-9.ensures.value at c.hole_count.ensures) is.start.basis.facts.readings fronts in
           holes ∙ ap (λ (w : Window). length (filter (has_hole w is.start.basis.facts.readings) is.start.basis.facts.readings)) is.start.window;
       entries = c.entry_count.ensures ∙ ap (λ (o : Option CheckpointReading). length (entry_updates o)) is.start.chosen;
     }

@@ -2,7 +2,7 @@ use Rattle.std.proofs.Common.{◌∙◌, List, map, refl, ap, take_all, arith}
 use Rattle.std.proofs.lemmas.Fn.{says_at}
 use Rattle.mt_record.specs.LogTexts.{greatest}
 use Rattle.mt_recover.proofs.VersionLemmas.{greatest_more}
-use Rattle.mt_recover.proofs.report.greatest_of.Goals as goal
+use Rattle.mt_recover.proofs.versions.greatest_of.Goals as goal
 
 pub loop-item-preserved : goal.loop-item-preserved
 loop-item-preserved g c = λ of is.

@@ -1,7 +1,7 @@
 use Rattle.std.proofs.Common.{◌≡◌, ℕ, map, take}
 use Rattle.std.specs.Fn.{FnReturnsAt}
 use Rattle.mt_record.specs.LogTexts.{greatest}
-use Rattle.mt_recover.proofs.report.greatest_of.Given as goal
+use Rattle.mt_recover.proofs.versions.greatest_of.Given as goal
 
 -- the greatest of the numbers of the first items
 abbrev pub invariant-loop-item : goal.invariant-loop-item

@@ -6,7 +6,7 @@ use Rattle.mt_words.specs.Built.{entry_of}
 use Rattle.mt_record.specs.LogTexts.{greatest}
 use Rattle.mt_recover.specs.Steps.Preparing.{entry_versions}
 use Rattle.mt_recover.proofs.VersionLemmas.{greatest_more}
-use Rattle.mt_recover.proofs.report.version_of_entries.Goals as goal
+use Rattle.mt_recover.proofs.versions.version_of_entries.Goals as goal
 
 pub loop-number-preserved : goal.loop-number-preserved
 loop-number-preserved c =
