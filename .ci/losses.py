@@ -499,7 +499,11 @@ def try_losses(work):
     # Parts that old logs were deleted for, and that of a fresh start, in format 4.
     pruned = Files(store.pruned(), store.pruned().files())
     truth = Truth(updates_of(pruned.store), checkpoint.begin, checkpoint.entries)
-    try_each([Damage("a bit of a length in a part", flip_entry("c3-1.mtc", truth), "broken")], truth, pruned)
+    of_parts = [
+        Damage("a bit of a length in a part", flip_entry("c3-1.mtc", truth), "broken"),
+        Damage("a line feed behind a part", append("c3-1.mtc", b"\n"), "broken"),
+    ]
+    try_each(of_parts, truth, pruned)
     shutil.rmtree(work / "OUT", ignore_errors=True)
     count("a fresh start", run("checkpoint", lay(work / "DIR", files), work / "OUT")[0] == 0)
     fresh = Files(None, files_of(work / "OUT"))

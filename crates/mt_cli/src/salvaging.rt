@@ -105,9 +105,9 @@ impl<'s> Salvage<'s> {
 pub struct PartPieces {
     /// The header of its text.
     head: PartHead,
-    /// Its entries.
+    /// Its entries and its footer.
     pieces: Vec<Piece>,
-    /// Its footer. None: it has lost that, or has one that cannot be true.
+    /// Its footer, in the last piece. None: it has none that can be true.
     footer: Option<Footer>,
     /// The byte of the file where its first entry is, if nothing is damaged before it.
     begin: usize,
@@ -115,9 +115,12 @@ pub struct PartPieces {
     size: usize,
 }
 
-/// The footer of a part, and where it stands in the file.
+/// The footer of a part, and where it stands.
 #[derive(Clone, Copy)]
 struct Footer {
+    /// The byte of the last piece's text where it begins.
+    at: usize,
+    /// The bytes of the file where it begins and ends.
     from: usize,
     to: usize,
     /// Where the checkpoint ends, and the number of entries.
@@ -129,7 +132,7 @@ impl PartPieces {
     /// Opens the part of these bytes. None: it has no header. Err: out of memory.
     pub fn open(alloc: Global, bytes: Vec<u8>) -> Result<Option<PartPieces>, Memory> {
         let size = bytes.len();
-        let (head, mut pieces, begin) = match sealed_header_at(&bytes) {
+        let (head, pieces, begin) = match sealed_header_at(&bytes) {
             Some((header, rest)) => {
                 let first = size.saturating_sub(rest.len());
                 let pieces = pieces_from(alloc, header.mark(), &bytes, first)?;
@@ -147,23 +150,103 @@ impl PartPieces {
                 (head, pieces, begin)
             }
         };
-        let footer = take_footer(&mut pieces, head.begin);
-        Ok(Some(PartPieces {
+        let mut part = PartPieces {
             head,
             pieces,
-            footer,
+            footer: None,
             begin,
             size,
-        }))
+        };
+        part.footer = part.find_footer(alloc)?;
+        Ok(Some(part))
     }
 
-    /// Returns its entries, wherever they are. Err: out of memory.
+    /// Returns its entries, wherever they are before its footer. Err: out of memory.
     pub fn find(&self, alloc: Global) -> Result<Vec<Placed<'_>>, Memory> {
+        self.find_before(alloc, self.footer.map_or(usize::MAX, |footer| footer.at))
+    }
+
+    /// Returns the entries of all pieces, those of the last one up to this byte of its text. Err: out of memory.
+    fn find_before(&self, alloc: Global, end: usize) -> Result<Vec<Placed<'_>>, Memory> {
         let mut found = Vec::new(alloc);
-        for piece in &self.pieces {
-            piece.find(alloc, Items::Entries, self.head.format, 0, &mut found)?;
+        let last = self.pieces.len().saturating_sub(1);
+        for (number, piece) in self.pieces.iter().enumerate() {
+            let end = if number == last { end } else { usize::MAX };
+            piece.find_within(
+                alloc,
+                Items::Entries,
+                self.head.format,
+                (0, end),
+                &mut found,
+            )?;
         }
         Ok(found)
+    }
+
+    /// Returns its footer. It must stand directly behind the last entry that is found, since bytes elsewhere may look like one, as
+    /// those of a value that is cut. It ends the text or, if all entries that it counts stand before it, other bytes may follow.
+    /// None: no such footer is there. Err: out of memory.
+    fn find_footer(&self, alloc: Global) -> Result<Option<Footer>, Memory> {
+        let Some(last) = self.pieces.last() else {
+            return Ok(None);
+        };
+        let found = self.find_before(alloc, usize::MAX)?;
+        if self.end_of(&found) == last.end() {
+            // Entries end it: what ends the last one is no footer.
+            return Ok(None);
+        }
+        if let Some(at) = self.bytes_in_a_row(&found) {
+            let footer = self.footer_at(at, found.len());
+            if footer.is_some_and(|footer| footer.count as usize == found.len()) {
+                return Ok(footer);
+            }
+        }
+        let Some(at) = last.text.len().checked_sub(FOOTER_BYTES) else {
+            return Ok(None);
+        };
+        let found = self.find_before(alloc, at)?;
+        if self.end_of(&found) != last.file_at(at) {
+            return Ok(None);
+        }
+        Ok(self.footer_at(at, found.len()))
+    }
+
+    /// Returns the byte of the file where these entries end, or where the first one would begin.
+    fn end_of(&self, found: &[Placed<'_>]) -> usize {
+        found.last().map_or(self.begin, |entry| entry.to)
+    }
+
+    /// Returns the number of bytes of these entries, if the part is one piece that begins with them, one after the other.
+    fn bytes_in_a_row(&self, found: &[Placed<'_>]) -> Option<usize> {
+        if self.pieces.len() != 1 || found.first()?.from != self.begin {
+            return None;
+        }
+        let mut bytes: usize = 0;
+        for entry in found {
+            if !entry.item.skipped.is_empty() {
+                return None;
+            }
+            bytes = bytes.saturating_add(entry.item.bytes.len());
+        }
+        Some(bytes)
+    }
+
+    /// Returns the footer that stands at this byte of the last piece's text. None: it is none, its checkpoint would end before it
+    /// begins, or it counts fewer entries than this number.
+    fn footer_at(&self, at: usize, entries: usize) -> Option<Footer> {
+        let last = self.pieces.last()?;
+        let behind = at.saturating_add(FOOTER_BYTES);
+        let (end, count) = footer_of(last.text.get(at..behind)?)?;
+        if end < self.head.begin || (count as usize) < entries {
+            return None;
+        }
+        Some(Footer {
+            at,
+            from: last.file_at(at),
+            to: last.file_at(behind),
+            end,
+            count,
+        })
     }
 
     /// Returns what can be salvaged of it. Err: out of memory.
@@ -178,31 +261,10 @@ impl PartPieces {
         Ok(all)
     }
 
-    /// Returns where its checkpoint ends, by its footer. None: it has none, or one that counts fewer entries than these.
-    fn end(&self, entries: usize) -> Option<u64> {
-        let footer = self.footer?;
-        (entries <= footer.count as usize).then_some(footer.end)
+    /// Returns where its checkpoint ends, by its footer. None: it has none that can be true.
+    fn end(&self) -> Option<u64> {
+        self.footer.map(|footer| footer.end)
     }
-}
-
-/// Takes the footer from the last piece of a part whose checkpoint begins at this timestamp. None: it has none that can be
-/// true. Zeros in a value that is cut may look like one.
-fn take_footer(pieces: &mut Vec<Piece>, begin: u64) -> Option<Footer> {
-    let Some(last) = pieces.last_mut() else {
-        return None;
-    };
-    let (end, count) = footer_of(&last.text)?;
-    if end < begin {
-        return None;
-    }
-    let to = last.end();
-    last.cut_off(FOOTER_BYTES);
-    Some(Footer {
-        from: last.end(),
-        to,
-        end,
-        count,
-    })
 }
 
 /// Prints the part of the entries of a part that can be salvaged, in format 2 if it is of format 4, and tells on `err` what it
@@ -221,7 +283,7 @@ pub fn cut_part<'a, O: Write, E: Write>(
         return Err(Halt::from(Fault::Header { log: 0 }));
     };
     let all = part.salvage(alloc)?;
-    let Some(end) = how.end.or(part.end(all.kept.len())) else {
+    let Some(end) = how.end.or(part.end()) else {
         return Err(refused(
             alloc,
             "it has no footer that can be true",

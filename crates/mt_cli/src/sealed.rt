@@ -74,13 +74,6 @@ impl Piece {
         })
     }
 
-    /// Removes this many bytes from the end of its text.
-    pub fn cut_off(&mut self, bytes: usize) {
-        let left = self.text.len().saturating_sub(bytes);
-        self.end = self.file_at(left);
-        self.text.truncate(left);
-    }
-
     /// Returns the byte of the file where its blocks end.
     pub fn end(&self) -> usize {
         self.end
@@ -110,7 +103,21 @@ impl Piece {
         start: usize,
         all: &mut Vec<Placed<'s>>,
     ) -> Result<(), Memory> {
-        let text = self.text.get(start..).unwrap_or(&[]);
+        self.find_within(alloc, items, format, (start, usize::MAX), all)
+    }
+
+    /// Appends the records or entries from the first of these bytes of its text on, up to the second one or the end of the text.
+    /// Err: out of memory.
+    pub fn find_within<'s>(
+        &'s self,
+        alloc: Global,
+        items: Items,
+        format: Format,
+        (start, end): (usize, usize),
+        all: &mut Vec<Placed<'s>>,
+    ) -> Result<(), Memory> {
+        let end = end.min(self.text.len());
+        let text = self.text.get(start..end).unwrap_or(&[]);
         let mut at = start;
         for item in &find_items(alloc, items, format, text)? {
             let from = at.saturating_add(item.skipped.len());
