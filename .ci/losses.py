@@ -344,6 +344,11 @@ def by_key(dumped):
 # ---- The operator ----
 
 
+def looks_at(folder):
+    """Returns of each file which one it is, and when it was written."""
+    return {path.name: (path.stat().st_ino, path.stat().st_mtime_ns) for path in folder.iterdir()}
+
+
 def most(ways):
     """Returns the first of these ways with the most survivors."""
     return max(ways, key=lambda way: int(way.get("survivors", -1)))
@@ -381,9 +386,11 @@ class Operator:
                 ended = shell(self.work, command)
                 count(f"{command}: {ended}", ended[0] == 0)
                 if not command.startswith("mv "):
-                    once = files_of(self.dir)
+                    once, looks = files_of(self.dir), looks_at(self.dir)
                     again = shell(self.work, command)[0]
                     count(f"{command}, again", again == (3 if step.way == NO_LOGS else 0) and files_of(self.dir) == once)
+                    if command.startswith("mtrecover cut"):
+                        count(f"{command}, again: each file stays", looks_at(self.dir) == looks)
                 touched.add(name)
         return ways
 

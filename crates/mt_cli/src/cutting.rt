@@ -1,5 +1,6 @@
 //! Answers the subcommand `cut`.
 use crate::answering::PRINTED_AT_ONCE;
+use crate::caveat::plural;
 use crate::halt::Halt;
 use crate::host::Host;
 use crate::intake::{LogIntake, feed_piece, open, unread};
@@ -8,7 +9,7 @@ use crate::salvaging::{Placed, Salvage, cut_part};
 use crate::sealed::{Piece, Sealed, TEXT_HEADER, unopened};
 use crate::stop::Stop;
 use mt_record::{
-    Head, Items, KeptRecords, LogFeed, Segment, encode_head, encode_record, header_at,
+    Head, Items, KeptRecords, LogFeed, Segment, encode_head, encode_record, find_items, header_at,
     is_sealed_part, part_header_at,
 };
 use mt_recover::Refusal;
@@ -18,7 +19,8 @@ use std::io::{self, ErrorKind, Read, Write};
 
 /// Prints a log of complete records of the log, byte for byte, as it reads them, and tells on `err` what it leaves out. If it
 /// is to skip damage, it holds the file, and prints as many records as possible, in order, whose timestamps never fall; of a
-/// part the part of its entries. A log of format 4 it holds as well, and prints its text, a segment.
+/// part the part of its entries. A log of format 4 it holds as well, and prints its text, a segment. Returns whether it leaves out
+/// more than a crash leaves that was not acknowledged.
 pub fn cut<'a, R: Host, O: Write, E: Write>(
     rt: &R,
     path: &'a str,
@@ -26,7 +28,7 @@ pub fn cut<'a, R: Host, O: Write, E: Write>(
     is_verbose: bool,
     out: &mut O,
     err: &mut E,
-) -> Result<(), Halt<'a>> {
+) -> Result<bool, Halt<'a>> {
     let mut file = open(rt, path)?;
     let name = is_verbose.then_some(path);
     if file.is_sealed() {
@@ -35,8 +37,7 @@ pub fn cut<'a, R: Host, O: Write, E: Write>(
         }
         let log = Sealed::open(rt.alloc(), file.into_all().map_err(unread)?).map_err(unopened)?;
         let cutter = Cutter::new(rt.alloc(), log.front.head, how, out)?;
-        cutter.cut_sealed(&log, name, err)?;
-        return Ok(());
+        return Ok(cutter.cut_sealed(&log, name, err)?.is_lossy);
     }
     if how.is_skipping && how.header.is_none() && has_part_header(&file.held) {
         return cut_part(rt.alloc(), file.into_all().map_err(unread)?, how, out, err);
@@ -50,7 +51,7 @@ pub fn cut<'a, R: Host, O: Write, E: Write>(
         },
     };
     file.pass(first);
-    let has_records = if how.is_skipping {
+    let made = if how.is_skipping {
         let bytes = file.into_all().map_err(unread)?;
         let size = first.saturating_add(bytes.len());
         let text = Piece::of_rest(rt.alloc(), bytes, first)?;
@@ -63,8 +64,8 @@ pub fn cut<'a, R: Host, O: Write, E: Write>(
         let cutter = Cutter::new(rt.alloc(), head, how, out)?;
         cutter.cut(log, name, err)?
     };
-    if has_records || how.header.is_none() {
-        return Ok(());
+    if made.has_records || how.header.is_none() {
+        return Ok(made.is_lossy);
     }
     Err(has_no_record(rt.alloc(), head.from))
 }
@@ -136,8 +137,18 @@ struct Cutter<'x, O> {
     feed: Option<LogFeed<KeptRecords>>,
     /// Whether the last bytes of the log so far are not printed.
     is_cut: bool,
+    /// The number of records that are not printed since they are not below the timestamp that is wanted.
+    not_below: usize,
+    made: Made,
+}
+
+/// What became of a log.
+#[derive(Clone, Copy)]
+struct Made {
     /// Whether a record is printed.
     has_records: bool,
+    /// Whether more is left out than a crash leaves, or may be lost by a header or a mark.
+    is_lossy: bool,
 }
 
 impl<'x, O: Write> Cutter<'x, O> {
@@ -164,18 +175,22 @@ impl<'x, O: Write> Cutter<'x, O> {
             out,
             feed,
             is_cut: false,
-            has_records: false,
+            not_below: 0,
+            made: Made {
+                has_records: false,
+                is_lossy: how.header.is_some(),
+            },
         })
     }
 
     /// Prints the records of the log, and tells on `err` what is left out, and where a segment then ends. If there is a name,
-    /// tells what may have happened to the file. Returns whether it has some.
+    /// tells what may have happened to the file.
     fn cut<F: Read + Drop, E: Write>(
         self,
         log: LogIntake<F>,
         name: Option<&str>,
         err: &mut E,
-    ) -> Result<bool, Refusal<'static>> {
+    ) -> Result<Made, Refusal<'static>> {
         let mut cutter = self;
         let mut log = log;
         for _ in 0..u64::MAX {
@@ -196,7 +211,7 @@ impl<'x, O: Write> Cutter<'x, O> {
         log: &Sealed,
         name: Option<&str>,
         err: &mut E,
-    ) -> Result<bool, Refusal<'static>> {
+    ) -> Result<Made, Refusal<'static>> {
         let mut cutter = self;
         if cutter.how.is_skipping {
             let behind = log.behind(cutter.alloc)?;
@@ -209,15 +224,14 @@ impl<'x, O: Write> Cutter<'x, O> {
     }
 
     /// Prints as many of these records as possible, in order, whose timestamps never fall, and tells on `err` what is skipped
-    /// of a file of this size, the first record of which would begin at the byte `begin`, and where a segment then ends. Returns
-    /// whether it has some.
+    /// of a file of this size, the first record of which would begin at the byte `begin`, and where a segment then ends.
     fn salvage<E: Write>(
         self,
         found: &[Placed<'_>],
         begin: usize,
         size: usize,
         err: &mut E,
-    ) -> Result<bool, Refusal<'static>> {
+    ) -> Result<Made, Refusal<'static>> {
         let mut cutter = self;
         let mut all = Salvage::of(cutter.alloc, found, begin)?;
         for record in &all.kept {
@@ -227,28 +241,48 @@ impl<'x, O: Write> Cutter<'x, O> {
         cutter.is_cut = cutter.is_cut || all.end < size;
         all.skip_to(size)?;
         all.tell("records", err);
+        cutter.made.is_lossy = cutter.made.is_lossy || all.has_skipped();
         cutter.finish(Ok(None), None, err)
     }
 
-    /// Ends the log, and tells on `err` where its records stop, if something follows that is left out, and where a segment then
-    /// ends. Returns whether it has a record.
+    /// Ends the log, and tells on `err` how many records are not below the timestamp that is wanted, where its records stop, if
+    /// something follows that is left out, and where a segment then ends.
     fn finish<E: Write>(
         self,
         stop: Result<Option<Stop>, Refusal<'static>>,
         name: Option<&str>,
         err: &mut E,
-    ) -> Result<bool, Refusal<'static>> {
+    ) -> Result<Made, Refusal<'static>> {
         let mut cutter = self;
         cutter.out.flush()?;
+        cutter.tell_not_below(err);
         if let Some(stop) = stop? {
             cutter.is_cut = true;
+            cutter.made.is_lossy = cutter.made.is_lossy || !stop.is_of_crash();
             stop.tell("left out: ", name, err);
         }
         cutter.mark(err)?;
         if let Some(end) = cutter.end()? {
             end.tell(err);
         }
-        Ok(cutter.has_records)
+        Ok(cutter.made)
+    }
+
+    /// Tells on `err` how many records are not below the timestamp that is wanted, if some are not. A write error is passed over.
+    fn tell_not_below<E: Write>(&mut self, err: &mut E) {
+        let Some(timestamp) = self.how.below else {
+            return;
+        };
+        let count = self.not_below;
+        if count == 0 {
+            return;
+        }
+        let s = plural(count as u128);
+        let _ = writeln!(
+            err,
+            "mtrecover: left out: {count} record{s} from timestamp {timestamp} on"
+        );
+        self.made.is_lossy = true;
     }
 
     /// Ends the log with the mark that is wanted, if one is and it ends before that, and tells on `err` what may be lost.
@@ -268,7 +302,10 @@ impl<'x, O: Write> Cutter<'x, O> {
         if let Some(feed) = &mut self.feed {
             let _ = feed.feed(&record);
         }
-        self.has_records = true;
+        self.made = Made {
+            has_records: true,
+            is_lossy: true,
+        };
         self.out.write_all(&record)?;
         self.out.flush()?;
         // A write error is passed over.
@@ -288,8 +325,13 @@ impl<'x, O: Write> Cutter<'x, O> {
         if let Some(feed) = &mut self.feed {
             feed_all(feed, kept);
         }
-        self.is_cut = kept.len() < records.len();
-        self.has_records = self.has_records || !kept.is_empty();
+        let rest = records.get(kept.len()..).unwrap_or(&[]);
+        self.is_cut = !rest.is_empty();
+        if self.is_cut {
+            let found = find_items(self.alloc, Items::Records, self.head.format, rest)?;
+            self.not_below = self.not_below.saturating_add(found.len());
+        }
+        self.made.has_records = self.made.has_records || !kept.is_empty();
         Ok(self.out.write_all(kept)?)
     }
 

@@ -10,10 +10,11 @@ use crate::intake::{Intake, LogIntake, open, unread};
 use crate::listing::Names;
 use crate::noting::note_cut;
 use crate::request::{Cut, FileCommand, FileQuery};
-use crate::saving::{begin_path, finish_path, give_up_path};
+use crate::saving::{begin_path, expect_path, finish_path, give_up_path, lock_path, look_at_path};
 use crate::sealed::{Sealed, SealedPart, is_footer, unopened};
 use crate::stats::print_stats;
 use crate::stop::Stop;
+use crate::watching::Look;
 use mt_record::{
     Head, PartFault, PartFeed, PartHead, entry_at, header_at, is_sealed_part, part_header_at,
     record_at,
@@ -62,8 +63,8 @@ pub fn answer_file<R: Host, O: Write, E: Write>(
     }
 }
 
-/// Cuts a log into the file of the path `target`, or else prints it. If it goes on after damage or ends with a mark, what it
-/// leaves out is noted beside that file before it counts.
+/// Cuts a log into the file of the path `target`, whose folder it locks, or else prints it. If it leaves out more than a crash
+/// leaves, what it tells is noted beside that file before it counts.
 fn cut_into<'a, R: Host, O: Write, E: Write>(
     rt: &R,
     path: &'a str,
@@ -77,14 +78,18 @@ fn cut_into<'a, R: Host, O: Write, E: Write>(
         cut(rt, path, how, is_verbose, out, err)?;
         return Ok(None);
     };
+    // The lock ends with the command.
+    let _lock = lock_path(rt, target)?;
+    let look = look_at_path(rt, target)?;
     let mut file = begin_path(rt, target, path)?;
     let mut told = Vec::new(rt.alloc());
-    let mut done = cut(rt, path, how, is_verbose, &mut file, &mut told);
+    let made = cut(rt, path, how, is_verbose, &mut file, &mut told);
     // A write error does not change what is cut.
     let _ = err.write_all(&told);
-    if done.is_ok() && (how.is_skipping || how.end.is_some()) {
-        done = note_cut(rt, target, &told);
-    }
+    let done = match made {
+        Ok(is_lossy) => prepare(rt, target, look, is_lossy, &told),
+        Err(halt) => Err(halt),
+    };
     match done {
         Ok(()) => {
             finish_path(rt, target, file)?;
@@ -92,6 +97,21 @@ fn cut_into<'a, R: Host, O: Write, E: Write>(
         }
         Err(halt) => Err(give_up_path(rt, target, halt)),
     }
+}
+
+/// Refuses if the file of the path `target` is not as it was in this look. If a cut is lossy, notes what it told.
+fn prepare<R: Host>(
+    rt: &R,
+    target: &str,
+    look: Option<Look>,
+    is_lossy: bool,
+    told: &[u8],
+) -> Result<(), Halt<'static>> {
+    expect_path(rt, target, look)?;
+    if is_lossy {
+        note_cut(rt, target, told)?;
+    }
+    Ok(())
 }
 
 /// Tells where records or entries stop, and returns the exit status. If there is a name, tells what may have happened to the

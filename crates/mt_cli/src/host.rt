@@ -73,7 +73,7 @@ impl Lock for File {
             Err(TryLockError::Error(error)) => Err(error),
             Err(TryLockError::WouldBlock) => Err(io::Error::new(
                 ErrorKind::WouldBlock,
-                "a server, or another resume or checkpoint, uses it",
+                "a server, or another command that changes files, uses it",
             )),
         }
     }
@@ -92,8 +92,18 @@ pub fn lock_folder<'a, R: Host>(
         Ok(file) => file,
         Err(error) => return Err(Halt::from(Refusal::of(Failure::List(path), error))),
     };
-    match file.lock_at_once(is_shared) {
-        Ok(()) => Ok(Some(file)),
+    Ok(Some(lock_opened(rt, path, file, is_shared)?))
+}
+
+/// Locks this folder, which is open and has this path, until what is returned is dropped, shared or not.
+pub fn lock_opened<R: Host>(
+    rt: &R,
+    path: &str,
+    folder: R::File,
+    is_shared: bool,
+) -> Result<R::File, Halt<'static>> {
+    match folder.lock_at_once(is_shared) {
+        Ok(()) => Ok(folder),
         Err(error) => {
             let advice = "stop the server first";
             Err(Halt::stuck(rt.alloc(), "lock", path, error, advice))

@@ -88,21 +88,26 @@ impl<'a, R: Host> Run<'a, R> {
 }
 
 impl<R: Host> Site<'_, R> {
-    /// Notes each line of a loss that is not noted yet, in one step. The file gets the owner, the group and the mode of the
-    /// file `model`, if that is there.
+    /// Notes each line of a loss that is not noted yet, in one step. If each one is, the notes stay as they are. The file gets the
+    /// owner, the group and the mode of the file `model`, if that is there.
     pub fn note(&self, loss: &Loss, model: &str) -> Result<(), Halt<'static>> {
         let path = self.path(NOTES)?;
         let mut text = match fs::read_to_string(self.rt, &path) {
             Err(error) if error.kind() == ErrorKind::NotFound => String::new(self.rt.alloc()),
             read => self.tell("read", NOTES, read)?,
         };
+        let before = text.len();
         for line in &loss.0 {
             if !text.lines().any(|noted| noted == line.as_str()) {
                 text.push_str(line.as_str())?;
                 text.push('\n')?;
             }
         }
-        self.write(NOTES, model, text.as_bytes())?;
+        if text.len() == before {
+            self.sync_file(NOTES)?;
+        } else {
+            self.write(NOTES, model, text.as_bytes())?;
+        }
         self.sync()
     }
 }

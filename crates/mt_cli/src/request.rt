@@ -33,11 +33,12 @@ pub enum FolderCommand<'a> {
 }
 
 impl FolderCommand<'_> {
-    /// Returns whether others may read the folder meanwhile. None: and write it, since the command changes no log and no part.
+    /// Returns whether others may read the folder meanwhile. None: and write it, since the command changes no file.
     pub fn lock(&self) -> Option<bool> {
         match self {
             FolderCommand::Resume(how) => Some(how.is_dry),
             FolderCommand::Checkpoint(_) => Some(true),
+            FolderCommand::Forget => Some(false),
             _ => None,
         }
     }

@@ -77,6 +77,11 @@ impl<'s> Salvage<'s> {
         Ok(())
     }
 
+    /// Returns whether bytes of the file are skipped.
+    pub fn has_skipped(&self) -> bool {
+        !self.skipped.is_empty()
+    }
+
     /// Returns where records or entries go on after the first damage. None: nowhere.
     pub fn again(&self) -> Option<Again> {
         let first = self.skipped.first()?;
@@ -268,14 +273,14 @@ impl PartPieces {
 }
 
 /// Prints the part of the entries of a part that can be salvaged, in format 2 if it is of format 4, and tells on `err` what it
-/// skips. Its footer has their number, and where the checkpoint ends.
+/// skips. Its footer has their number, and where the checkpoint ends. Returns whether it skips bytes.
 pub fn cut_part<'a, O: Write, E: Write>(
     alloc: Global,
     bytes: Vec<u8>,
     how: &Cut,
     out: &mut O,
     err: &mut E,
-) -> Result<(), Halt<'a>> {
+) -> Result<bool, Halt<'a>> {
     if how.below.is_some() {
         return Err(refused(alloc, "its entries have no timestamps", "leave out --below"));
     }
@@ -300,7 +305,7 @@ pub fn cut_part<'a, O: Write, E: Write>(
     out.write_all(&made)?;
     out.flush()?;
     all.tell("entries", err);
-    Ok(())
+    Ok(all.has_skipped())
 }
 
 /// Returns why a part is not salvaged.

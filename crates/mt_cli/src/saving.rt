@@ -1,6 +1,7 @@
 //! Writes, replaces and deletes the files of a folder. A crash leaves of each file the old bytes or the new ones.
 use crate::halt::Halt;
-use crate::host::Host;
+use crate::host::{Host, lock_opened};
+use crate::intake::Intake;
 use crate::sealed::PART_HEADER;
 use crate::watching::{Look, changed};
 use mt_record::{PART_HEADER_BYTES, is_sealed_part};
@@ -287,6 +288,27 @@ pub fn site_of<'t, R: Host>(rt: &'t R, path: &'t str) -> Site<'t, R> {
     }
 }
 
+/// Locks the folder that a path is in until what is returned is dropped.
+pub fn lock_path<R: Host>(rt: &R, path: &str) -> Result<R::File, Halt<'static>> {
+    let site = site_of(rt, path);
+    let folder = site.tell("write", path, File::open(rt, site.folder))?;
+    lock_opened(rt, site.folder, folder, false)
+}
+
+/// Looks at the file of this path. None: none is there.
+pub fn look_at_path<R: Host>(rt: &R, path: &str) -> Result<Option<Look>, AllocError> {
+    let target = Path::new("").join(rt.alloc(), path)?;
+    Ok(Look::at(rt, &target))
+}
+
+/// Refuses if the file of this path is not as it was in this look.
+pub fn expect_path<R: Host>(rt: &R, path: &str, look: Option<Look>) -> Result<(), Halt<'static>> {
+    if look_at_path(rt, path)? != look {
+        return Err(changed(rt.alloc(), path));
+    }
+    Ok(())
+}
+
 /// Begins a file that is to get this path, as `Site::begin` does. Refuses if that would delete the file `input`.
 pub fn begin_path<R: Host>(rt: &R, path: &str, input: &str) -> Result<R::File, Halt<'static>> {
     let target = Path::new("").join(rt.alloc(), path)?;
@@ -303,12 +325,38 @@ pub fn begin_path<R: Host>(rt: &R, path: &str, input: &str) -> Result<R::File, H
     site.tell("write", path, site.begin(&target, &target))
 }
 
-/// Gives a file that was begun this path, in one step, and syncs the folder that it is in.
+/// Gives a file that was begun this path, in one step, and syncs the folder that it is in. A file that has the same bytes stays as
+/// it is.
 pub fn finish_path<R: Host>(rt: &R, path: &str, file: R::File) -> Result<(), Halt<'static>> {
     let target = Path::new("").join(rt.alloc(), path)?;
     let site = site_of(rt, path);
-    site.tell("write", path, site.finish(file, &target))?;
+    if has_same_bytes(rt, &target).unwrap_or(false) {
+        site.give_up(&target);
+        site.tell_synced(path, sync_path(rt, path))?;
+    } else {
+        site.tell("write", path, site.finish(file, &target))?;
+    }
     site.sync()
+}
+
+/// Returns whether a file has the bytes that its unfinished one has. Err: one of them is not there, read error, or out of memory.
+fn has_same_bytes<R: Host>(rt: &R, path: &PathBuf) -> io::Result<bool> {
+    let unfinished = path.with_added_extension(rt.alloc(), UNFINISHED)?;
+    let mut old = Intake::of(rt.alloc(), File::open(rt, path)?, 1)?;
+    let mut new = Intake::of(rt.alloc(), File::open(rt, &unfinished)?, 1)?;
+    for _ in 0..u64::MAX {
+        if old.held.as_slice() != new.held.as_slice() {
+            return Ok(false);
+        }
+        if old.held.is_empty() {
+            break;
+        }
+        old.pass(old.held.len());
+        new.pass(new.held.len());
+        old.read(1)?;
+        new.read(1)?;
+    }
+    Ok(true)
 }
 
 /// Deletes a file that was begun for this path, and returns why it is not written.

@@ -132,6 +132,18 @@ impl Stop {
         }
     }
 
+    /// Returns whether a crash leaves what follows, of which nothing was acknowledged: a torn tail or, of a record, zeros in place of
+    /// its end. No record is behind it.
+    pub fn is_of_crash(&self) -> bool {
+        let Ending { zeros, again, .. } = self.ending;
+        let is_unfinished = match self.reason {
+            Some((_, Wrong::Torn)) => true,
+            Some((_, Wrong::Record(What::Length | What::Trailer))) => zeros > 0,
+            _ => false,
+        };
+        is_unfinished && again.is_none()
+    }
+
     /// Writes where they stop, and why.
     fn write_reason<W: Write>(&self, f: &mut Formatter<W>) -> fmt::Result {
         let Stop { name, at, .. } = *self;

@@ -197,7 +197,7 @@ impl<'a, R: Host> Run<'a, R> {
             &mut bytes,
             &mut io::sink(),
         ) {
-            Ok(()) => Ok(bytes),
+            Ok(_) => Ok(bytes),
             Err(
                 Halt::Refused(
                     Refusal {
