@@ -141,8 +141,8 @@ def random_update(rng, form, timestamp, version):
     return Update(timestamp, version, kind, b"key%04d" % rng.randrange(5000), tuple(numbers))
 
 
-def make_store(rng):
-    """Writes a store by docs/DURABILITY.md. The updates have the versions from 1 to UPDATES."""
+def make_store(rng, beat=BEAT):
+    """Writes a store by docs/DURABILITY.md, with a mark in each log after so many updates. These have the versions from 1 to UPDATES."""
     clock, history, workers = 1, [], {}
     for done in range(UPDATES):
         if done == BEGINS:
@@ -156,7 +156,7 @@ def make_store(rng):
                 if files:
                     files[-1][1].append(new_record(clock))
                 files.append((Head(form, clock if files else 0, worker + PLAIN * (form < 3), len(files)), [new_record(clock)]))
-        if done % BEAT == BEAT - 1:
+        if done % beat == beat - 1:
             clock = mark_all(workers, clock)
         clock += rng.choice([0, 1, 1, 2])
         head, records = rng.choice([files for files in workers.values() if files])[-1]

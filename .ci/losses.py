@@ -11,7 +11,7 @@ from typing import NamedTuple
 
 from blocks import header_of, length_at, read_part
 from counting import count
-from damage import BEAT, make_store, store_of
+from damage import make_store, store_of
 from formats import PUT, Update, columns_bytes, framed, header, mark, record
 from page import AS_TEXT, BROKEN, FIRST, LATE, NO_LOGS, TORN, WAYS, lines_of, name_of, shell
 from stores import dump, dump_lines, run
@@ -21,8 +21,8 @@ from torture import files_of, lay
 MOST = 1.2
 # More steps than any folder takes.
 MOST_STEPS = 8
-# The page's "many": more updates than there are between two marks.
-MANY = BEAT
+# A commit: the server then marks its logs. The most marks that resume takes for a crash are then those of 400 updates.
+COMMIT = 25
 
 
 class Damage(NamedTuple):
@@ -59,7 +59,7 @@ class Files(dict):
 
 def make(rng):
     """Returns the files of a store after a crash, which cut off the last record of a log."""
-    store = make_store(rng)
+    store = make_store(rng, COMMIT)
     torn = record(Update(store.log("w1-0.mtl").last() + 1, 1, PUT, b"torn", ((0, b"hello"),)))
     return Files(store, {**store.files(), "w1-0.mtl": store.log("w1-0.mtl").content + torn[:-7]})
 
@@ -410,9 +410,9 @@ class Operator:
         for log in logs:
             if log["state"] == "torn" and "next" in log:
                 return Step(TORN, WAYS[TORN][0], [log["file"]])
-        late = sum(int(log["late"]) for log in logs)
         ends = [way for way in ways if way["way"] == "end"]
-        if late > MANY:
+        refused = run("resume", self.dir, "--dry-run")[2].decode()
+        if " marks at or past the cutoff; " in refused:
             strangers = [log["file"] for log in logs if log["file"] not in self.names]
             if strangers:
                 return Step("not ours", "mv DIR/F AWAY", strangers)
@@ -475,7 +475,9 @@ def resume(folder, *words):
 def in_haste(damage, truth, files, work):
     """Resumes at once. What that loses must be told before or after it."""
     folder = lay(work / "HASTE", {name: content for name, content in files.items() if content is not None})
-    if resume(folder, "--max-late", str(MANY)) == 0:
+    status = resume(folder)
+    count(f"{damage.title}: refused in haste", status == 5 or "late" not in damage.ways)
+    if status == 0:
         is_told = run("report", folder, "--strict")[0]
         count(f"{damage.title}: in haste", is_told or not truth.lost(dump(folder)[1]) or damage.unseen)
 

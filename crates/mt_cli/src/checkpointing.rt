@@ -7,7 +7,7 @@ use crate::answering::PRINTED_AT_ONCE;
 use crate::caveat::{Caveat, Losses};
 use crate::halt::Halt;
 use crate::host::{Host, Lock, Run};
-use crate::loss::Loss;
+use crate::loss::{Loss, MOST_LATE_MARKS};
 use crate::noting::NOTES;
 use crate::request::NewFolder;
 use crate::row::{Cell, write_row};
@@ -36,10 +36,10 @@ impl<'a, R: Host> Run<'a, R> {
         let recovered = self.recover(err)?;
         let writers = recovered.report().writers;
         let others = self.folder.other_writers(self.rt.alloc(), writers)?;
-        let loss = if others.is_some() || Losses::of(recovered.report()).is_some() {
+        let loss = if others.is_some() || may_have_lost(recovered.report()) {
             // Only a check tells which file shows it.
             let checked = self.check_all(err)?;
-            checked.loss(self.rt.alloc(), new.budget.most_late, others)?
+            self.loss_of(&checked, new.budget.most_late, others)?
         } else {
             None
         };
@@ -97,6 +97,13 @@ impl<'a, R: Host> Run<'a, R> {
         site.write(LOG, LOG, &log)?;
         site.sync()
     }
+}
+
+/// Returns whether a report does not rule out that more was lost than a crash loses.
+fn may_have_lost(report: &Report) -> bool {
+    let goes_beyond = report.last > report.cutoff;
+    let has_late_marks = goes_beyond && report.marks > u128::from(MOST_LATE_MARKS);
+    has_late_marks || Losses::of(report).is_some()
 }
 
 /// Plans the checkpoint of what was recovered: at its cutoff, and its entries with the greatest version found.

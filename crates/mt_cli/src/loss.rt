@@ -2,18 +2,23 @@
 use crate::caveat::plural;
 use crate::checked::{Checked, CheckedLog};
 use crate::fates::{Fate, numbers_of};
+use crate::host::{Host, Run};
 use crate::request::Folder;
-use mt_recover::Start;
+use mt_recover::{Refusal, Start};
 use mt_text::Shown;
 use mt_words::Memory;
 use std::alloc::{AllocError, Global};
 use std::io::Write;
 
+/// How many marks of a log at or past the cutoff a crash may leave. A host ends each commit with a mark, so they are the commits by
+/// which another log was ahead: hosts leave at most 4 of them, a log that was cut short leaves up to a thousand in other logs.
+pub const MOST_LATE_MARKS: u64 = 16;
+
 /// How much may be lost without being accepted, as residue of a crash.
 #[derive(Clone, Copy)]
 pub struct Budget {
-    /// The most updates that may be late.
-    pub most_late: u64,
+    /// The most updates that may be late. None: any number, but no log may have more than `MOST_LATE_MARKS` late marks.
+    pub most_late: Option<u64>,
     /// Whether each loss is accepted.
     pub accepts_loss: bool,
 }
@@ -45,30 +50,58 @@ impl Folder<'_> {
     }
 }
 
-impl Checked<'_> {
-    /// Returns what recovery loses that no crash loses, and the line on the number of writers if there is one. None: nothing, or
-    /// it names a fault. Err: out of memory.
-    pub fn loss(
+impl<'a, R: Host> Run<'a, R> {
+    /// Returns what recovery of these files loses that no crash loses, if this many updates may be late, and the line on the number
+    /// of writers if there is one. None: nothing, or it names a fault. Err: read error, or out of memory.
+    pub fn loss_of(
         &self,
-        alloc: Global,
-        most_late: u64,
+        checked: &Checked<'_>,
+        most_late: Option<u64>,
         writers: Option<String>,
-    ) -> Result<Option<Loss>, Memory> {
-        let Ok(start) = &self.start else {
+    ) -> Result<Option<Loss>, Refusal<'static>> {
+        let Ok(start) = &checked.start else {
             return Ok(None);
         };
+        let alloc = self.rt.alloc();
         let mut lines = Vec::new(alloc);
         if let Some(line) = writers {
             lines.push(line)?;
         }
-        self.add_late(alloc, start.window.cutoff, most_late, &mut lines)?;
-        for log in &self.logs {
+        let cutoff = start.window.cutoff;
+        match most_late {
+            Some(most) => checked.add_late(alloc, cutoff, most, &mut lines)?,
+            None => self.add_late_marks(checked, cutoff, &mut lines)?,
+        }
+        for log in &checked.logs {
             log.add_holes(alloc, &mut lines)?;
         }
-        self.add_checkpoints(alloc, start, &mut lines)?;
+        checked.add_checkpoints(alloc, start, &mut lines)?;
         Ok((!lines.is_empty()).then_some(Loss(lines)))
     }
 
+    /// Adds each log with more than `MOST_LATE_MARKS` late marks, and the file that ends at the cutoff.
+    fn add_late_marks(
+        &self,
+        checked: &Checked<'_>,
+        cutoff: u64,
+        lines: &mut Vec<String>,
+    ) -> Result<(), Refusal<'static>> {
+        let end = Shown(checked.name_at(cutoff));
+        for (number, log) in checked.logs.iter().enumerate() {
+            let marks = self.late_marks(number, log, cutoff)?;
+            if marks > MOST_LATE_MARKS {
+                let name = Shown(log.file.name);
+                let line = format!(in self.rt.alloc();
+                    "{name}: {marks} marks at or past the cutoff; {end} ends at {cutoff}"
+                )?;
+                lines.push(line)?;
+            }
+        }
+        Ok(())
+    }
+}
+
+impl Checked<'_> {
     /// Adds the file that ends at the cutoff, if more updates than this number are late.
     fn add_late(
         &self,
@@ -81,13 +114,20 @@ impl Checked<'_> {
         if late <= u128::from(most) {
             return Ok(());
         }
-        let log = self
-            .log_of(cutoff)
-            .and_then(|log| self.logs.get(log as usize));
-        let name = log.map_or("", |log| log.file.name);
-        let (s, name) = (plural(late), Shown(name));
+        let (s, name) = (plural(late), Shown(self.name_at(cutoff)));
         lines.push(format!(in alloc; "{late} update{s} late: {name} ends at {cutoff}")?)?;
         Ok(())
+    }
+
+    /// Returns the name of the file that ends at the cutoff.
+    fn name_at(&self, cutoff: u64) -> &str {
+        let Some(number) = self.log_of(cutoff) else {
+            return "";
+        };
+        match self.logs.get(number as usize) {
+            Some(log) => log.file.name,
+            None => "",
+        }
     }
 
     /// Adds the damaged checkpoints that are newer than the chosen one.

@@ -37,7 +37,7 @@ impl<'a, R: Host> Run<'a, R> {
         let losses = checked.losses();
         let writers = checked.writers(self.rt.alloc())?;
         let others = self.folder.other_writers(self.rt.alloc(), writers)?;
-        let loss = checked.loss(self.rt.alloc(), how.budget.most_late, others)?;
+        let loss = self.loss_of(&checked, how.budget.most_late, others)?;
         let version = checked.version();
         let mut parts = checked.parts;
         if let Some(refusal) = checked.unopened {

@@ -147,7 +147,7 @@ fn of_folder<'a>(
             is_strict: matches.get_flag(STRICT_RESUME.name),
             is_json: matches.get_flag(JSON.name),
             has_no_logs: matches.get_flag(NO_LOGS.name),
-            budget: budget(matches)?,
+            budget: budget(matches),
         }),
         "checkpoint" => {
             let limit: u64 = found(matches.get_one(PART_LIMIT.name))?;
@@ -156,7 +156,7 @@ fn of_folder<'a>(
                 number: found(matches.get_one(NUMBER.name))?,
                 limit: limit.min(MOST_TEXT) as usize,
                 is_json: matches.get_flag(JSON.name),
-                budget: budget(matches)?,
+                budget: budget(matches),
             })
         }
         "audit" => FolderCommand::Audit {
@@ -174,11 +174,11 @@ fn of_folder<'a>(
 }
 
 /// Returns what may be lost.
-fn budget(matches: &ArgMatches<'_>) -> Result<Budget, Refusal<'static>> {
-    Ok(Budget {
-        most_late: found(matches.get_one(MAX_LATE.name))?,
+fn budget(matches: &ArgMatches<'_>) -> Budget {
+    Budget {
+        most_late: matches.get_one(MAX_LATE.name),
         accepts_loss: matches.get_flag(ACCEPT_LOSS.name),
-    })
+    }
 }
 
 /// Returns how to print what is in the files of a folder.
