@@ -5,16 +5,18 @@ use crate::host::{Host, Run};
 use crate::progress::count_inputs;
 use crate::request::Trace;
 use crate::row::{Cell, Field, write_row};
+use itertools::Itertools;
 use mt_record::{Lent, LogFront};
 use mt_recover::{Fate, Inputs, Refusal, check_parts, history_of, start_of};
 use mt_scan::{LogScan, Source, scan_log};
 use mt_text::Value;
 use mt_words::{Fault, Memory, Origin};
-use std::alloc::Global;
+use std::alloc::{AllocError, Global};
 use std::io::{BufWriter, Write};
 
 impl<'a, R: Host> Run<'a, R> {
-    /// Scans the logs, one after the other, and the parts, and prints a line for each update of a key, through a buffer.
+    /// Scans the logs, one after the other, and the parts, and prints a line for each update of a key, in the order of their
+    /// timestamps, and last for the entry of the chosen checkpoint, through a buffer.
     pub fn trace<O: Write, E: Write + Send>(
         &self,
         how: &Trace,
@@ -41,7 +43,11 @@ impl<'a, R: Host> Run<'a, R> {
             .map(|checkpoint| u64::from(checkpoint.number));
         let history = history_of(alloc, how.key.as_bytes(), start.window, &scans, chosen)?;
         let mut out = BufWriter::with_capacity(alloc, PRINTED_AT_ONCE, out)?;
-        for (update, fate) in history.updates.iter().zip(&history.fates) {
+        for number in by_timestamp(alloc, &history.updates)? {
+            let (updates, fates) = (&history.updates, &history.fates);
+            let (Some(update), Some(fate)) = (updates.get(number), fates.get(number)) else {
+                continue;
+            };
             let columns = columns_of(alloc, update)?;
             let row = fields(update, fate, &columns, checkpoint, &self.names.logs);
             write_row(&row, how.is_json, &mut out)?;
@@ -62,6 +68,29 @@ fn scan_logs<S: Source>(alloc: Global, logs: Vec<S>) -> Result<Vec<LogScan>, Fau
         }
     }
     Ok(scans)
+}
+
+/// Returns the numbers of these updates in the order of their timestamps, at one timestamp in the order of their numbers. They stand
+/// by log, and in a log timestamps never fall. The entry of a checkpoint, whose timestamp is not known, is the last. Err: out of
+/// memory.
+fn by_timestamp(alloc: Global, updates: &[Lent<'_>]) -> Result<Vec<usize>, AllocError> {
+    let mut runs = Vec::new(alloc);
+    let mut last = None;
+    for (number, update) in updates.iter().enumerate() {
+        let (log, timestamp) = match update.origin() {
+            Origin::Log { log, .. } => (Some(log), update.timestamp()),
+            Origin::Checkpoint => (None, u64::MAX),
+        };
+        if last != Some(log) {
+            runs.push(Vec::new(alloc))?;
+            last = Some(log);
+        }
+        if let Some(run) = runs.last_mut() {
+            run.push((timestamp, number))?;
+        }
+    }
+    let merged = runs.into_iter().kmerge(alloc)?;
+    merged.map(|(_, number)| number).collect(alloc)
 }
 
 /// Returns the line of an update: where it comes from, what it says and what became of it. The timestamp of an entry is not
