@@ -180,10 +180,11 @@ uint32_t mtr_report_nameless(mtr_place *store, size_t i, uint64_t *part);
 
 /* What becomes of a log if a server resumes. */
 typedef struct mtr_resumed {
-    uint64_t dropped; /* its updates at or past the cutoff, which go */
-    uint32_t format;  /* its format, 1 to 4, in which records go on */
-    bool changed;     /* whether the bytes differ from the log's; always of format 4 */
-    bool ended;       /* whether a mark at 2^64 - 1 ends them: go on in another log */
+    uint64_t dropped;    /* its updates at or past the cutoff, which go */
+    uint64_t late_marks; /* its marks at or past the cutoff, which go, but for one at 2^64 - 1: a crash leaves few of them */
+    uint32_t format;     /* its format, 1 to 4, in which records go on */
+    bool changed;        /* whether the bytes differ from the log's; always of format 4 */
+    bool ended;          /* whether a mark at 2^64 - 1 ends them: go on in another log */
 } mtr_resumed;
 
 /* What replaces a log if a server resumes after a recovery with this cutoff: its header, with a `from` of at most the
@@ -194,6 +195,17 @@ typedef struct mtr_resumed {
  * header, with a `from` of 0, and mtr_mark(cutoff, ..). DONE or SHORT: *resumed is told. Else it is as before. FAULT: the bytes are no log. Never WRONG. */
 uint32_t mtr_resume_log(const uint8_t *log, size_t length, uint64_t cutoff, uint64_t salt, mtr_resumed *resumed,
                         uint8_t *out, size_t room, size_t *count);
+
+/* Where a log ends. */
+typedef struct mtr_log_ending {
+    uint64_t from; /* the timestamp of its header, below which updates may be missing */
+    uint64_t last; /* the greatest of its timestamps: of its header and its complete records */
+    bool torn;     /* whether a torn tail follows these records */
+    bool goes_on;  /* whether further records follow the torn tail, as no crash leaves them; never of format 4 */
+} mtr_log_ending;
+
+/* Tells where a log ends. FAULT: the bytes are no log. Not DONE: *ending is as before. Never WRONG. */
+uint32_t mtr_read_log_ending(const uint8_t *log, size_t length, mtr_log_ending *ending);
 
 /* Whether this key is in the store. ABSENT: it is not. WRONG: the place holds no store. Never MEMORY. */
 uint32_t mtr_exists(mtr_place *store, const uint8_t *key, size_t key_length);

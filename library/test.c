@@ -621,14 +621,14 @@ static void test_share(void) {
 
 static void test_resume(void) {
     static const uint8_t mark[] = "\0\0\0\x09\x03\0\0\0\0\0\0\0\x29\0\0\0\x09";
-    mtr_resumed resumed = {9, 9, true, true};
+    mtr_resumed resumed = {9, 9, 9, true, true};
     uint8_t out[256] = {9};
     size_t count = 0;
     expect("a log is as it was", mtr_resume_log(examples[0].bytes, examples[0].length, 40, 8, &resumed, out, 256, &count) ==
-                                     MTR_DONE && count == 138 && resumed.dropped == 0 && !resumed.changed &&
+                                     MTR_DONE && count == 138 && resumed.dropped == 0 && resumed.late_marks == 1 && !resumed.changed &&
                                      resumed.format == 1 && !resumed.ended && memcmp(out, examples[0].bytes, count) == 0);
     expect("a log is replaced", mtr_resume_log(examples[1].bytes, examples[1].length, 41, 8, &resumed, out, 256, &count) ==
-                                    MTR_DONE && count == 139 && resumed.dropped == 1 && resumed.changed &&
+                                    MTR_DONE && count == 139 && resumed.dropped == 1 && resumed.late_marks == 1 && resumed.changed &&
                                     memcmp(out, examples[1].bytes, 122) == 0 && memcmp(out + 122, mark, 17) == 0);
     out[0] = 9;
     resumed.dropped = 9;
@@ -639,7 +639,35 @@ static void test_resume(void) {
     append(mtr_segment_header(7, 2, 1, rest(), room(), &count), &count, 20);
     append(mtr_mark(UINT64_MAX, rest(), room(), &count), &count, 17);
     expect("an ended segment", mtr_resume_log(file, length, 40, 8, &resumed, out, 256, &count) == MTR_DONE && count == 54 &&
-                                   resumed.format == 3 && resumed.ended);
+                                   resumed.format == 3 && resumed.ended && resumed.late_marks == 0);
+}
+
+/* Log 0 ends with a mark at 40; log 1 with one at 42, and a torn tail. */
+static void test_endings(void) {
+    static const uint8_t torn[] = "\0\0\x40\0\x07torn";
+    mtr_log_ending ending = {9, 9, true, true};
+    uint32_t mark = 0;
+    size_t count = 0;
+    expect("a whole log", mtr_read_log_ending(examples[0].bytes, examples[0].length, &ending) == MTR_DONE && ending.from == 0 &&
+                              ending.last == 40 && !ending.torn && !ending.goes_on);
+    expect("a torn tail", mtr_read_log_ending(examples[1].bytes, examples[1].length, &ending) == MTR_DONE && ending.last == 42 &&
+                              ending.torn && !ending.goes_on);
+    length = 0;
+    append(mtr_segment_header(7, 2, 1, rest(), room(), &count), &count, 20);
+    append(mtr_mark(8, rest(), room(), &count), &count, 17);
+    memcpy(rest(), torn, sizeof torn - 1);
+    length += sizeof torn - 1;
+    expect("one of format 3", mtr_read_log_ending(file, length, &ending) == MTR_DONE && ending.from == 7 && ending.last == 8 &&
+                                  ending.torn && !ending.goes_on);
+    append(mtr_mark(9, rest(), room(), &count), &count, 17);
+    expect("a record behind it", mtr_read_log_ending(file, length, &ending) == MTR_DONE && ending.last == 8 && ending.torn &&
+                                     ending.goes_on);
+    expect("no log", mtr_read_log_ending(text("x"), 1, &ending) == MTR_FAULT && ending.last == 8);
+    length = 0;
+    append(mtr_log_header_4(7, 2, 1, 3, 9, rest(), room(), &count, &mark), &count, 44);
+    length++;
+    expect("one of format 4", mtr_read_log_ending(file, length, &ending) == MTR_DONE && ending.from == 9 && ending.last == 9 &&
+                                  ending.torn && !ending.goes_on);
 }
 
 /* Returns the number at these four bytes. */
@@ -682,7 +710,7 @@ static void test_resume_small(void) {
 
 /* A log of format 4 goes on with another salt: one of this segment that begins at 7, with a block that ends it. */
 static void test_resume_blocks(void) {
-    mtr_resumed resumed = {9, 9, false, false};
+    mtr_resumed resumed = {9, 9, 9, false, false};
     uint8_t out[128], again[128], record[17];
     uint32_t mark = 0;
     size_t count = 0, most;
@@ -1063,6 +1091,7 @@ int main(int argc, char **argv) {
     test_read_headers();
     test_share();
     test_resume();
+    test_endings();
     test_resume_blocks();
     test_resume_small();
     test_keeper();

@@ -84,9 +84,19 @@ pub struct RawReport {
 #[derive(Clone, Copy, Default)]
 pub struct RawResumed {
     pub dropped: u64,
+    pub late_marks: u64,
     pub format: u32,
     pub changed: bool,
     pub ended: bool,
+}
+
+#[repr(C)]
+#[derive(Clone, Copy, Default)]
+pub struct RawLogEnding {
+    pub from: u64,
+    pub last: u64,
+    pub torn: bool,
+    pub goes_on: bool,
 }
 
 #[repr(C)]
@@ -177,6 +187,7 @@ extern "C" {
         room: usize,
         count: *mut usize,
     ) -> u32;
+    pub fn mtr_read_log_ending(log: *const u8, length: usize, ending: *mut RawLogEnding) -> u32;
     pub fn mtr_exists(store: *mut RawPlace, key: *const u8, key_length: usize) -> u32;
     pub fn mtr_get(
         store: *mut RawPlace,

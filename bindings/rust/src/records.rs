@@ -2,7 +2,7 @@
 
 use alloc::vec::Vec;
 
-use crate::c::{self, RawResumed};
+use crate::c::{self, RawLogEnding, RawResumed};
 use crate::inputs::done;
 use crate::{OutOfMemory, WriteError};
 
@@ -27,6 +27,8 @@ pub struct Mark(u32);
 pub struct Resumed {
     /// Its updates at or past the cutoff, which are gone.
     pub dropped: u64,
+    /// Its marks at or past the cutoff, which are gone, but for one at 2^64 - 1. A crash leaves few of them.
+    pub late_marks: u64,
     /// The format in which its records go on.
     pub format: Format,
     /// Whether the bytes are others now, as those of a log of format 4 always are.
@@ -212,5 +214,31 @@ pub fn resume_log(out: &mut Vec<u8>, log: &[u8], cutoff: u64, salt: u64) -> Resu
         c::mtr_resume_log(log.as_ptr(), log.len(), cutoff, salt, &mut raw, at, room, count)
     })?;
     let format = if raw.format == 1 { Format::One } else { Format::Two };
-    Ok(Resumed { dropped: raw.dropped, format, changed: raw.changed, ended: raw.ended })
+    Ok(Resumed { dropped: raw.dropped, late_marks: raw.late_marks, format, changed: raw.changed, ended: raw.ended })
+}
+
+/// Where a log ends.
+#[derive(Clone, Copy, Debug, PartialEq, Eq)]
+#[non_exhaustive]
+pub struct Ending {
+    /// The timestamp of its header, below which updates may be missing.
+    pub from: u64,
+    /// The greatest of its timestamps: of its header and its complete records.
+    pub last: u64,
+    /// Whether a torn tail follows these records.
+    pub torn: bool,
+    /// Whether further records follow the torn tail, as no crash leaves them. Never of a log of format 4.
+    pub goes_on: bool,
+}
+
+/// Returns where a log ends.
+pub fn log_ending(log: &[u8]) -> Result<Ending, WriteError> {
+    let mut raw = RawLogEnding::default();
+    // SAFETY: the log is lent for the call, which writes to `raw` alone.
+    match unsafe { c::mtr_read_log_ending(log.as_ptr(), log.len(), &mut raw) } {
+        c::DONE => Ok(Ending { from: raw.from, last: raw.last, torn: raw.torn, goes_on: raw.goes_on }),
+        c::MEMORY => Err(WriteError::OutOfMemory),
+        c::FAULT => Err(WriteError::NoLog),
+        status => unreachable!("status {status}"),
+    }
 }

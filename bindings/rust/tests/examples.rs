@@ -291,6 +291,9 @@ fn a_torn_log_is_resumed() {
     assert_eq!((told.dropped, told.format, told.changed, told.ended), (1, Format::Two, true, false));
     assert_eq!(mtrecover::recover(&[&resumed], &[]).unwrap().report().cutoff, 40);
     assert_eq!(records::resume_log(&mut resumed, b"x", 40, 7), Err(WriteError::NoLog));
+    let ending = records::log_ending(&log).unwrap();
+    assert_eq!((ending.from, ending.last, ending.torn, ending.goes_on), (0, 42, true, false));
+    assert_eq!(records::log_ending(b"x"), Err(WriteError::NoLog));
 }
 
 #[test]

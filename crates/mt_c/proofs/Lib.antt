@@ -1,6 +1,7 @@
 pub mod Cuts
 mod Adds
 pub mod Dumps
+pub mod Ends
 pub mod Givens
 mod JobLemmas
 pub mod Joins

@@ -2,6 +2,7 @@ pub mod Added
 pub mod Borrowing
 pub mod Buffers
 pub mod Cuts
+pub mod Endings
 pub mod Filling
 pub mod Flat
 pub mod Formats

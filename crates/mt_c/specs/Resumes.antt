@@ -2,7 +2,7 @@
 use Rattle.std.specs.Prelude.{◌≡◌, ◌≢◌, ◌↔◌, ◌⊎◌, ℕ, List, IsTrue}
 use Rattle.mt_record.specs.Opening.{IsSealed}
 use Rattle.mt_record.specs.Logs.{LogReading, IsReading, count_of}
-use Rattle.mt_record.specs.Resuming.{is_ended, updates_past, resumed, Replaces}
+use Rattle.mt_record.specs.Resuming.{is_ended, updates_past, marks_past, resumed, Replaces}
 use Rattle.mt_c.specs.declared.resuming.Resumed.{Resumed}
 use Rattle.mt_c.specs.Buffers.{Writes}
 use Rattle.mt_c.specs.Formats.{IsFormatOf}
@@ -13,6 +13,7 @@ pub record Resumes (cutoff salt : ℕ) (log : List ℕ) (told : Resumed) (before
   pub bytes : List ℕ
   pub is_resumed : Replaces cutoff salt log bytes
   pub dropped : (reading : LogReading) → IsReading log reading → told.dropped ≡ count_of (updates_past cutoff reading.records)
+  pub late_marks : (reading : LogReading) → IsReading log reading → told.late_marks ≡ count_of (marks_past cutoff reading.records)
   pub format : (reading : LogReading) → IsReading log reading → IsFormatOf log reading.head told.format
   pub changed : IsTrue told.changed ↔ (IsSealed log ⊎ (bytes ≢ log))
   pub ended : (reading : LogReading) → IsReading log reading → told.ended ≡ is_ended (resumed cutoff reading).records

@@ -19,6 +19,7 @@ mod checkpoints;
 mod crewing;
 mod cutting;
 mod dumping;
+mod ending;
 mod fault;
 mod feeding;
 mod feeds;

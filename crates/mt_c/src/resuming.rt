@@ -20,6 +20,8 @@ use std::alloc::Global;
 pub struct Resumed {
     /// The number of its updates at or past the cutoff, which go, counted up to 2^64 - 1.
     pub dropped: u64,
+    /// The number of its marks at or past the cutoff, which go, but for the one that ends a log, counted up to 2^64 - 1.
+    pub late_marks: u64,
     /// The format of the log.
     pub format: u32,
     /// Whether the bytes differ from those of the log. Those of a log of format 4 always count as changed.
@@ -55,6 +57,7 @@ pub extern "C" fn mtr_resume_log(
             }
             *resumed = Resumed {
                 dropped: new.dropped,
+                late_marks: new.late_marks,
                 format: format_in(log),
                 changed: new.changed,
                 ended: new.ended,
