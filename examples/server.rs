@@ -173,7 +173,14 @@ fn run() -> Outcome<()> {
     // SAFETY: a set of signals has this size. SIGTERM (15) is blocked (0) before a thread starts.
     unsafe { (sigemptyset(&mut ends), sigaddset(&mut ends, 15), pthread_sigmask(0, &ends, ptr::null_mut())) };
     let logs = logs.parse()?;
-    let settings = Settings { folder: folder.into(), logs, segment: segment.parse()?, checkpoint: checkpoint.parse()? };
+    let settings = Settings {
+        folder: folder.into(),
+        logs,
+        segment: segment.parse()?,
+        checkpoint: checkpoint.parse()?,
+        max_late: None,
+        accept_loss: false,
+    };
     let opened = host::open(settings)?;
     let table = Arc::new(Table::of(opened.store.as_ref(), opened.last)?);
     let read = Arc::clone(&table);

@@ -2,6 +2,7 @@
  *
  *     WORKER-SEGMENT.mtl   a segment of a worker's log
  *     NUMBER-0.mtc         a checkpoint, which has one part
+ *     LOSS                 what was lost in starts that accepted it, a line each
  *     NAME.new             a file that is not whole: it takes its name once it is synced
  *
  * One lock guards the keeper and all that threads share. It is free while a thread writes or syncs. After a failed write or
@@ -22,8 +23,19 @@
 #include <sys/stat.h>
 #include <unistd.h>
 
-/* NEW is room for the bytes of a new log, or for what a resume adds to one; BUFFER for an entry, and BLOCK for a block of them. */
-enum { NAME = 32, NEW = 128, BUFFER = 1 << 23, BLOCK = BUFFER + 16 };
+/* NEW is room for the bytes of a new log, or for what a resume adds to one, beside a 1,024th of it; BUFFER for an entry and
+ * the entries before it, and BLOCK for the blocks that are written at once. */
+enum { NAME = 32, NEW = 128, KEY = 4096, BUFFER = 1 << 23, BLOCK = BUFFER + 16 };
+
+/* A block of a part has at most so many bytes of entries, or one entry, so that damage costs few of them. */
+enum { ENTRIES = 4096, WRITTEN_AT_ONCE = 1 << 20 };
+
+/* A log runs at most so many takes ahead of what is acknowledged. Each take ends with a mark: so a crash leaves no more marks
+ * of a log at or past the cutoff, and a start takes more of them for a loss. */
+enum { AHEAD = 16 };
+
+/* The file in which losses are noted. */
+static const char NOTES[] = "LOSS";
 
 /* A worker's log: its newest file, and the thread that writes it. */
 struct log {
@@ -35,6 +47,8 @@ struct log {
     uint64_t size;
     bool is_full;     /* it takes no record until the next file follows */
     uint64_t covered; /* the last stamp when the bytes that are synced were taken */
+    uint64_t marks[AHEAD]; /* of the last takes, of which the mark that the file begins with is one */
+    size_t takes;
     mtr_place buffer;
 };
 
@@ -70,8 +84,10 @@ struct mtr_host_part {
     uint32_t mark;   /* of the file */
     bool has_failed; /* an entry is not written */
     uint32_t entries;
-    size_t length; /* of what follows in the next block */
-    uint8_t bytes[BUFFER], block[BLOCK];
+    size_t key_length; /* of the last entry's key */
+    size_t length;     /* of what follows in the next block */
+    size_t sealed;     /* of the blocks that are not written yet */
+    uint8_t key[KEY], bytes[BUFFER], blocks[BLOCK];
 };
 
 /* Says what failed. Returns false. */
@@ -203,6 +219,8 @@ static bool commit(struct log *log) {
     if ((marked != MTR_EARLY && !is_done(marked, "a mark")) ||
         !is_done(mtr_log_take(&host->keeper, log->number, &log->buffer, &lent), "records"))
         return false;
+    for (size_t n = log->takes == 0 ? 2 : 1; n > 0; n--) /* the first mark is not above that of the first take */
+        log->marks[log->takes++ % AHEAD] = last + 1;
     pthread_mutex_unlock(&host->lock);
     bool is_synced = did(write_all(log->file, lent.at, lent.length) && fdatasync(log->file) == 0, "a log");
     pthread_mutex_lock(&host->lock);
@@ -231,13 +249,21 @@ static bool rotate(struct log *log) {
     return true;
 }
 
+/* Whether the log has to wait for the others: the mark of the take that was AHEAD takes ago is not below what is acknowledged.
+ * The log that is behind all others never waits. */
+static bool is_ahead(const struct log *log) {
+    return log->takes >= AHEAD && log->marks[log->takes % AHEAD] >= log->host->below;
+}
+
 /* The thread of a log. Each update waits for all logs, so each log is synced after each. */
 static void *write_log(void *given) {
     struct log *log = given;
     mtr_host *host = log->host;
     pthread_mutex_lock(&host->lock);
     while (!host->has_failed) {
-        if (log->covered < host->last) {
+        if (log->covered < host->last && is_ahead(log)) {
+            pthread_cond_wait(&host->done, &host->lock);
+        } else if (log->covered < host->last) {
             log->is_full = log->size >= host->settings.segment;
             if (!commit(log) || (log->is_full && !rotate(log)))
                 fail(host);
@@ -256,29 +282,54 @@ static void *write_log(void *given) {
 
 /* ---- Checkpoints ---- */
 
-/* Writes a block. */
-static bool flush(mtr_host_part *part) {
+/* Writes the blocks that are sealed. */
+static bool write_blocks(mtr_host_part *part) {
+    size_t count = part->sealed;
+    part->sealed = 0;
+    return did(write_all(part->file, part->blocks, count), "a part");
+}
+
+/* Seals a block of the first `length` bytes. */
+static bool seal(mtr_host_part *part, size_t length) {
     size_t count = 0;
-    if (!is_done(mtr_seal(part->mark, part->bytes, part->length, part->block, BLOCK, &count), "a part"))
+    if (part->sealed >= WRITTEN_AT_ONCE || part->sealed + length + 16 > BLOCK)
+        if (!write_blocks(part))
+            return false;
+    if (!is_done(mtr_seal(part->mark, part->bytes, length, part->blocks + part->sealed, BLOCK - part->sealed, &count), "a part"))
         return false;
-    part->length = 0;
-    return did(write_all(part->file, part->block, count), "a part");
+    part->sealed += count;
+    part->length -= length;
+    memmove(part->bytes, part->bytes + length, part->length);
+    return true;
+}
+
+/* Whether the key is above that of the last entry. */
+static bool rises(const mtr_host_part *part, const uint8_t *key, size_t length) {
+    int order = memcmp(part->key, key, part->key_length < length ? part->key_length : length);
+    return part->entries == 0 || order < 0 || (order == 0 && part->key_length < length);
+}
+
+/* Appends an entry, which begins the next block if it has no room in this one. */
+static bool append_entry(mtr_host_part *part, uint64_t version, const uint8_t *key, size_t key_length, const mtr_column *columns,
+                         size_t column_count) {
+    size_t count = 0, before = part->length;
+    if (key_length > KEY || !rises(part, key, key_length))
+        return says("an entry", "its key is not above the last one, or too long");
+    if (part->entries == UINT32_MAX ||
+        !is_done(mtr_entry(2, version, key, key_length, columns, column_count, part->bytes + before, BUFFER - before, &count),
+                 "an entry"))
+        return false;
+    memcpy(part->key, key, part->key_length = key_length);
+    part->length += count;
+    part->entries++;
+    return before == 0 || part->length <= ENTRIES || seal(part, before);
 }
 
 bool mtr_host_entry(mtr_host_part *part, uint64_t version, const uint8_t *key, size_t key_length, const mtr_column *columns,
                 size_t column_count) {
-    size_t count = 0;
-    uint32_t status = mtr_entry(2, version, key, key_length, columns, column_count, part->bytes + part->length,
-                                BUFFER - part->length, &count);
-    if (status == MTR_SHORT && part->length > 0 && flush(part))
-        return mtr_host_entry(part, version, key, key_length, columns, column_count);
-    if (!is_done(status, "an entry") || part->entries == UINT32_MAX) {
-        part->has_failed = true;
-        return false;
-    }
-    part->length += count;
-    part->entries++;
-    return true;
+    if (!part->has_failed)
+        part->has_failed = !append_entry(part, version, key, key_length, columns, column_count);
+    return !part->has_failed;
 }
 
 /* Reads all keys into the part, between its header and its footer. */
@@ -286,18 +337,17 @@ static bool write_part(mtr_host *host, mtr_host_part *part, uint32_t number, uin
     size_t count = 0;
     uint64_t salt = 0;
     if (!draw(&salt) ||
-        !is_done(mtr_part_header_4(salt, number, begin, 0, 1, part->block, BLOCK, &count, &part->mark), "a part") ||
-        !did(write_all(part->file, part->block, count), "a part") ||
-        !host->settings.entries(host->settings.server, part) || part->has_failed || !flush(part))
+        !is_done(mtr_part_header_4(salt, number, begin, 0, 1, part->blocks, BLOCK, &part->sealed, &part->mark), "a part") ||
+        !host->settings.entries(host->settings.server, part) || part->has_failed)
         return false;
     pthread_mutex_lock(&host->lock);
     uint32_t status = mtr_checkpoint_end(&host->keeper, end);
     pthread_mutex_unlock(&host->lock);
     if (!is_done(status, "a checkpoint") ||
-        !is_done(mtr_part_footer(*end, part->entries, part->bytes, BUFFER, &count), "a part"))
+        !is_done(mtr_part_footer(*end, part->entries, part->bytes + part->length, BUFFER - part->length, &count), "a part"))
         return false;
-    part->length = count;
-    return flush(part);
+    part->length += count;
+    return seal(part, part->length) && write_blocks(part);
 }
 
 /* Writes the part of a checkpoint to the file NAME.new. Returns it open, or -1, and then it is gone. */
@@ -388,9 +438,11 @@ static void *write_checkpoints(void *given) {
 /* A log that the last server left. */
 struct left {
     uint32_t worker, segment;
-    uint8_t *bytes;
+    uint8_t *bytes; /* then those that replace it */
     size_t length;
     mode_t mode;
+    mtr_resumed resumed;
+    mtr_log_ending ending; /* once a loss is suspected */
 };
 
 /* What the folder has. */
@@ -399,12 +451,14 @@ struct found {
     size_t log_count;
     uint32_t *parts; /* their checkpoints */
     size_t part_count;
+    bool has_notes; /* of losses */
 };
 
-/* Notes a log or a part. False: it is not of this host, or there is no memory. */
+/* Finds a log, a part, or the notes of losses. False: it is not of this host, or there is no memory. */
 static bool find(struct found *found, const char *name) {
     char own[NAME] = "";
     uint32_t number = 0, segment = 0;
+    found->has_notes |= strcmp(name, NOTES) == 0;
     const char *end = strrchr(name, '.');
     if (end == NULL || (strcmp(end, ".mtl") != 0 && strcmp(end, ".mtc") != 0))
         return true;
@@ -417,7 +471,7 @@ static bool find(struct found *found, const char *name) {
         if (!did(logs != NULL, name))
             return false;
         found->logs = logs;
-        logs[found->log_count++] = (struct left){number, segment, NULL, 0, 0};
+        logs[found->log_count++] = (struct left){.worker = number, .segment = segment};
         return true;
     }
     uint32_t *parts = realloc(found->parts, (found->part_count + 1) * sizeof *parts);
@@ -435,7 +489,12 @@ static int by_segments(const void *a, const void *b) {
     return one->segment < other->segment ? -1 : one->segment > other->segment;
 }
 
-/* Locks the folder, and finds its logs, in the order of their segments, and its parts. */
+static int by_numbers(const void *a, const void *b) {
+    uint32_t one = *(const uint32_t *)a, other = *(const uint32_t *)b;
+    return one < other ? -1 : one > other;
+}
+
+/* Locks the folder, and finds its logs, in the order of their segments, and its parts, in that of their numbers. */
 static bool search(mtr_host *host, struct found *found) {
     struct dirent *entry;
     bool is_own = true;
@@ -450,6 +509,8 @@ static bool search(mtr_host *host, struct found *found) {
     closedir(entries);
     if (found->log_count > 0)
         qsort(found->logs, found->log_count, sizeof *found->logs, by_segments);
+    if (found->part_count > 0)
+        qsort(found->parts, found->part_count, sizeof *found->parts, by_numbers);
     return is_own;
 }
 
@@ -556,25 +617,187 @@ static bool add_log(mtr_host *host, size_t number, int file, uint64_t size, bool
     return true;
 }
 
-/* Replaces a log by what goes on. Returns the file open, or -1. */
-static int resume(mtr_host *host, const struct left *log, uint64_t cutoff, uint64_t salt, size_t *number, size_t *size) {
+/* Makes the bytes that replace a log, in place of its own. No file is changed. */
+static bool resume(struct left *log, uint64_t cutoff, uint64_t salt) {
     char name[NAME];
-    mtr_resumed resumed;
-    size_t room = log->length + log->length / 1024 + NEW;
+    size_t room = log->length + log->length / 1024 + NEW, size = 0;
     uint8_t *bytes = malloc(room);
-    int file = -1;
     name_log(log->worker, log->segment, name);
-    if (did(bytes != NULL, name) &&
-        is_done(mtr_resume_log(log->bytes, log->length, cutoff, salt, &resumed, bytes, room, size), name)) {
-        file = create(host, name);
-        if (!did(file >= 0 && fchmod(file, log->mode) == 0 && write_all(file, bytes, *size), name) ||
-            !place(host, file, name) || !is_done(mtr_keeper_add(&host->keeper, bytes, *size, number), name)) {
-            close(file);
-            file = -1;
+    if (!did(bytes != NULL, name))
+        return false;
+    bool is_made = is_done(mtr_resume_log(log->bytes, log->length, cutoff, salt, &log->resumed, bytes, room, &size), name);
+    free(log->bytes);
+    log->bytes = bytes;
+    log->length = size;
+    return is_made && (!log->resumed.ended || says(name, "is ended"));
+}
+
+static bool resume_all(const mtr_host *host, struct found *found, uint64_t cutoff) {
+    for (size_t n = 0; n < found->log_count; n++)
+        if (!resume(&found->logs[n], cutoff, host->salt + n))
+            return false;
+    return true;
+}
+
+/* Replaces a log by what goes on. Returns the file open, or -1. */
+static int replace(mtr_host *host, const struct left *log, size_t *number) {
+    char name[NAME];
+    name_log(log->worker, log->segment, name);
+    int file = create(host, name);
+    if (did(file >= 0 && fchmod(file, log->mode) == 0 && write_all(file, log->bytes, log->length), name) &&
+        place(host, file, name) && is_done(mtr_keeper_add(&host->keeper, log->bytes, log->length, number), name))
+        return file;
+    if (file >= 0)
+        close(file);
+    return -1;
+}
+
+/* ---- Losses ---- */
+
+/* Reads a log once more, for where it ends. */
+static bool read_ending(const mtr_host *host, struct left *log) {
+    char name[NAME];
+    size_t length = 0;
+    mode_t mode = 0;
+    name_log(log->worker, log->segment, name);
+    uint8_t *bytes = read_file(host, name, &length, &mode);
+    bool is_read = bytes != NULL && is_done(mtr_read_log_ending(bytes, length, &log->ending), name);
+    free(bytes);
+    return is_read;
+}
+
+static bool is_newest(const struct found *found, size_t log) {
+    return log + 1 == found->log_count || found->logs[log + 1].worker != found->logs[log].worker;
+}
+
+static bool has_many_late(const mtr_host *host, const mtr_report *report) {
+    return host->settings.max_late > 0 && report->late > host->settings.max_late;
+}
+
+/* Whether recovery lost more of the logs than a crash loses, or may have: then they are read once more. */
+static bool is_suspect(const mtr_host *host, const struct found *found, const mtr_report *report) {
+    bool is_suspect = has_many_late(host, report) || report->holes > 0;
+    for (size_t n = 0; n < found->log_count; n++) {
+        const mtr_resumed *resumed = &found->logs[n].resumed;
+        is_suspect |= resumed->late_marks > AHEAD || (report->torn > 0 && resumed->format != 4);
+    }
+    return is_suspect;
+}
+
+/* Writes the first log that ends at the cutoff, and where. */
+static void write_end(const struct found *found, uint64_t cutoff, FILE *lines) {
+    char name[NAME] = "";
+    for (size_t n = found->log_count; n-- > 0;)
+        if (is_newest(found, n) && found->logs[n].ending.last == cutoff)
+            name_log(found->logs[n].worker, found->logs[n].segment, name);
+    fprintf(lines, "%s ends at %" PRIu64 "\n", name, cutoff);
+}
+
+/* Writes a line for each loss of the logs. */
+static bool write_log_losses(const mtr_host *host, struct found *found, const mtr_report *report, FILE *lines) {
+    char name[NAME];
+    for (size_t n = 0; n < found->log_count; n++)
+        if (!read_ending(host, &found->logs[n]))
+            return false;
+    if (has_many_late(host, report)) {
+        fprintf(lines, "%" PRIu64 " update%s late: ", report->late, report->late == 1 ? "" : "s");
+        write_end(found, report->cutoff, lines);
+    }
+    for (size_t n = 0; n < found->log_count; n++) {
+        const struct left *log = &found->logs[n];
+        name_log(log->worker, log->segment, name);
+        if (log->resumed.late_marks > AHEAD && log->ending.last > report->cutoff) {
+            fprintf(lines, "%s: %" PRIu64 " marks at or past the cutoff; ", name, log->resumed.late_marks);
+            write_end(found, report->cutoff, lines);
         }
     }
-    free(bytes);
-    return file;
+    for (size_t n = 0; n < found->log_count; n++) {
+        const struct left *log = &found->logs[n];
+        name_log(log->worker, log->segment, name);
+        bool follows = n > 0 && log[-1].worker == log->worker && log[-1].segment + 1 == log->segment;
+        uint64_t from = log->ending.from, end = follows ? log[-1].ending.last : UINT64_MAX;
+        if (from > report->begin && end < from && end < report->cutoff)
+            fprintf(lines, "%s: a hole from %" PRIu64 " to %" PRIu64 " is before it\n", name, end, from);
+        if (log->ending.goes_on)
+            fprintf(lines, "%s: records follow its torn tail\n", name);
+    }
+    return true;
+}
+
+/* Whether recovery takes the part at this position for a broken one: then a crash did not leave it, since it got its name whole. */
+static bool is_broken(const struct found *found, size_t part, mtr_place *store) {
+    uint64_t number = 0;
+    bool is_broken = false;
+    for (size_t n = 0; mtr_report_skipped(store, n, &number) == MTR_DONE; n++)
+        is_broken |= number == found->parts[part];
+    for (size_t n = 0; mtr_report_nameless(store, n, &number) == MTR_DONE; n++)
+        is_broken |= number == part;
+    return is_broken;
+}
+
+/* Writes a line for each loss that no crash explains. */
+static bool write_losses(const mtr_host *host, struct found *found, mtr_place *store, const mtr_report *report, FILE *lines) {
+    if (is_suspect(host, found, report) && !write_log_losses(host, found, report, lines))
+        return false;
+    for (size_t n = 0; n < found->part_count; n++)
+        if ((report->checkpoint == UINT64_MAX || found->parts[n] > report->checkpoint) && is_broken(found, n, store))
+            fprintf(lines, "checkpoint %" PRIu32 " skipped: it is damaged\n", found->parts[n]);
+    return true;
+}
+
+/* The line after this one. */
+static const char *next_line(const char *line) {
+    line += strcspn(line, "\n");
+    return *line == 0 ? line : line + 1;
+}
+
+static bool has_line(const char *text, const char *line) {
+    size_t length = strcspn(line, "\n");
+    while (*text != 0 && (strcspn(text, "\n") != length || memcmp(text, line, length) != 0))
+        text = next_line(text);
+    return *text != 0;
+}
+
+/* Writes the file of losses: the text that it had, and each of these lines that it had not. */
+static bool note(const mtr_host *host, mode_t mode, const char *had, const char *lines) {
+    int file = create(host, NOTES);
+    bool is_written = file >= 0 && fchmod(file, mode) == 0 && write_all(file, (const uint8_t *)had, strlen(had));
+    for (; is_written && *lines != 0; lines = next_line(lines))
+        if (!has_line(had, lines))
+            is_written = write_all(file, (const uint8_t *)lines, (size_t)(next_line(lines) - lines));
+    is_written = did(is_written, NOTES) && place(host, file, NOTES);
+    if (file >= 0)
+        close(file);
+    return is_written;
+}
+
+/* Notes these losses, of which nothing else will tell once the logs are replaced. The notes get the mode of a log. */
+static bool note_losses(const mtr_host *host, const struct found *found, const char *lines) {
+    size_t length = 0;
+    mode_t mode = 0;
+    char *had = found->has_notes ? (char *)read_file(host, NOTES, &length, &mode) : calloc(1, 1);
+    if (had == NULL)
+        return false;
+    had[length] = 0;
+    bool is_noted = note(host, found->logs[0].mode, had, lines);
+    free(had);
+    return is_noted;
+}
+
+/* Whether the server may go on: recovery lost no more than a crash loses, or the loss is accepted, and noted. Before that no
+ * file is changed, so that what was lost may be put back. */
+static bool may_go_on(const mtr_host *host, struct found *found, mtr_place *store, const mtr_report *report) {
+    char *text = NULL;
+    size_t length = 0;
+    FILE *lines = open_memstream(&text, &length);
+    bool is_known = did(lines != NULL, "losses") && write_losses(host, found, store, report, lines);
+    if (lines != NULL)
+        is_known = did(fclose(lines) == 0, "losses") && is_known;
+    for (const char *line = text; is_known && *line != 0; line = next_line(line))
+        fprintf(stderr, "host: loss: %.*s\n", (int)strcspn(line, "\n"), line);
+    bool goes_on = is_known && (length == 0 || (host->settings.accept_loss && note_losses(host, found, text)));
+    free(text);
+    return goes_on;
 }
 
 /* Goes on with what was found, after recovery with this report. */
@@ -582,7 +805,7 @@ static bool go_on(mtr_host *host, const struct found *found, mtr_place *store, c
     uint32_t greatest = 0;
     char name[NAME];
     for (size_t n = 0; n < found->part_count; n++) {
-        greatest = found->parts[n] > greatest ? found->parts[n] : greatest;
+        greatest = found->parts[n];
         name_part(found->parts[n], name);
         if (found->parts[n] != report->checkpoint && !delete_file(host, name))
             return false;
@@ -593,12 +816,11 @@ static bool go_on(mtr_host *host, const struct found *found, mtr_place *store, c
         return false;
     for (size_t n = 0; n < found->log_count; n++) {
         const struct left *log = &found->logs[n];
-        size_t number = 0, size = 0;
-        int file = resume(host, log, report->cutoff, host->salt + n, &number, &size);
-        bool is_newest = n + 1 == found->log_count || log[1].worker != log->worker, is_sealed = log->bytes[3] == '4';
-        if (file < 0 || (is_newest && !add_log(host, number, file, size, !is_sealed)))
+        size_t number = 0;
+        int file = replace(host, log, &number);
+        if (file < 0 || (is_newest(found, n) && !add_log(host, number, file, log->length, log->resumed.format != 4)))
             return false;
-        if (!is_newest)
+        if (!is_newest(found, n))
             close(file);
     }
     return is_done(mtr_keeper_resumed(&host->keeper), "the keeper");
@@ -637,7 +859,8 @@ mtr_host *mtr_host_open(const mtr_host_settings *settings, mtr_place *store, uin
     host->folder = open(settings->folder, O_RDONLY | O_DIRECTORY | O_CLOEXEC);
     bool is_open = did(host->folder >= 0, settings->folder) && draw(&host->salt) && search(host, &found);
     if (is_open && found.log_count + found.part_count > 0)
-        is_open = recover(host, &found, store, &report) && go_on(host, &found, store, &report);
+        is_open = recover(host, &found, store, &report) && resume_all(host, &found, report.cutoff) &&
+                  may_go_on(host, &found, store, &report) && go_on(host, &found, store, &report);
     pthread_mutex_lock(&host->lock);
     is_open = is_open && begin_logs(host) && is_done(mtr_keeper_acknowledged(&host->keeper, &host->below), "the keeper");
     pthread_mutex_unlock(&host->lock);

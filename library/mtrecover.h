@@ -334,7 +334,8 @@ typedef struct mtr_lent {
 } mtr_lent;
 
 /* Takes all that was appended to the log since the last call, to be appended to its file by one write, and synced: of a file
- * of format 4 one block. From then on `buffer` holds these bytes. EARLY: those of the last call are not synced. WRONG: also
+ * of format 4 one block. Let no log run more than 16 takes ahead: wait while the mark of the take 16 takes ago is not below
+ * what mtr_keeper_acknowledged tells. Starts refuse a log with more than 16 marks at or past the cutoff. From then on `buffer` holds these bytes. EARLY: those of the last call are not synced. WRONG: also
  * if `buffer` is not empty and holds no bytes. If it is empty, MEMORY may come before a WRONG of the log. */
 uint32_t mtr_log_take(mtr_place *keeper, size_t log, mtr_place *buffer, mtr_lent *lent);
 
@@ -349,8 +350,9 @@ uint32_t mtr_keeper_failed(mtr_place *keeper);
 uint32_t mtr_keeper_acknowledged(mtr_place *keeper, uint64_t *below);
 
 /* Begins a checkpoint. *number is that of its parts, and *begin its begin: both stand in their headers. Then read each key
- * in one step, between its updates: the version of its entry is the stamp of its last update. EARLY: one is being made.
- * FULL: no stamp or number is left. */
+ * in one step, between its updates: the version of its entry is the stamp of its last update. Keys rise, strictly, in the
+ * order of their bytes, within each part and from one part to the next: a checkpoint whose keys do not rise is not valid.
+ * EARLY: one is being made. FULL: no stamp or number is left. */
 uint32_t mtr_checkpoint_begin(mtr_place *keeper, uint32_t *number, uint64_t *begin);
 
 /* Notes that all keys are read. *end stands in the footers. Then sync the parts, rename them, and sync the folder.
@@ -498,7 +500,8 @@ uint32_t mtr_erase(uint32_t format, uint64_t time, uint64_t version, const uint8
 uint32_t mtr_part_header(uint32_t format, uint32_t number, uint64_t begin, uint16_t part, uint16_t parts, uint8_t *out,
                          size_t room, size_t *count);
 
-/* The entry of a key with these columns. WRONG: as for mtr_put, by the formats of parts. Never MEMORY. */
+/* The entry of a key with these columns. Each key of a part is above the one before it, in the order of their bytes: see to
+ * it, since no call here knows the one before. WRONG: as for mtr_put, by the formats of parts. Never MEMORY. */
 uint32_t mtr_entry(uint32_t format, uint64_t version, const uint8_t *key, size_t key_length, const mtr_column *columns,
                    size_t column_count, uint8_t *out, size_t room, size_t *count);
 

@@ -17,13 +17,21 @@ typedef struct mtr_host_settings {
     unsigned logs;       /* this many threads write, each a log of its own */
     uint64_t segment;    /* a log's file is followed by the next one from this size on */
     uint64_t checkpoint; /* a checkpoint is made once this many bytes of logs were written */
-    /* Gives mtr_host_entry each key that the server has, read after this call began. Returns whether all were given. */
+    /* Gives mtr_host_entry each key that the server has, read after this call began, in the order of keys, byte by byte.
+     * Returns whether all were given. */
     bool (*entries)(void *server, mtr_host_part *part);
     void *server;
+    uint64_t max_late; /* an open refuses to lose more late updates than this; 0: it does not count them */
+    bool accept_loss;  /* an open goes on although updates are lost that no crash loses */
 } mtr_host_settings;
 
 /* Opens the folder, which no other server has open and hosts alone wrote, and recovers its store, if it has logs, into the
- * empty place `store`. NULL: standard error says why not. *last is the last stamp: no recovered key has a greater version. */
+ * empty place `store`. NULL: standard error says why not. *last is the last stamp: no recovered key has a greater version.
+ *
+ * It refuses what `mtrecover resume` refuses, before any file is changed: a log with more than 16 marks at or past the cutoff
+ * or, if max_late is given, more than max_late updates there, which may be those of a log that was put back or cut short; a
+ * hole before a segment; records behind a torn tail; a broken part that is newer than the chosen one. Put the lost bytes
+ * back. With accept_loss it goes on without them, and the file LOSS in the folder notes what is lost. */
 mtr_host *mtr_host_open(const mtr_host_settings *settings, mtr_place *store, uint64_t *last);
 
 /* Starts the threads, once the server has taken the store. False: standard error says why not; then close it. */
@@ -40,7 +48,8 @@ uint32_t mtr_host_put(mtr_host *host, unsigned log, const uint8_t *key, size_t k
 bool mtr_host_wait(mtr_host *host, uint64_t stamp);
 
 /* Writes the entry of a key to the checkpoint in the making: all columns that it has, read in one step with its version,
- * the stamp of its last update, or *last if that was recovered. A key without columns has no entry. False: that failed. */
+ * the stamp of its last update, or *last if that was recovered. A key without columns has no entry. Each key is above the last
+ * one, byte by byte. False: it is not, or that failed: then the checkpoint is given up, and nothing is deleted for it. */
 bool mtr_host_entry(mtr_host_part *part, uint64_t version, const uint8_t *key, size_t key_length, const mtr_column *columns,
                 size_t column_count);
 

@@ -301,6 +301,8 @@ int fsync(int number) {
     struct file *file = file_of(number);
     bool *is_lost = file != NULL ? &file->is_lost : &disk->is_folder_lost;
     int error = fails(SYNCS, opened[number - FIRST].name);
+    for (unsigned n = 0; n < machine->slowness && strstr(opened[number - FIRST].name, machine->slow) != NULL; n++)
+        pass();
     *is_lost |= error != 0;
     if (!*is_lost && file != NULL) {
         file->synced = file->length;
@@ -457,6 +459,29 @@ void lay(const char *name, const void *bytes, size_t length) {
     strcpy(change.to, name);
     apply(&disk->now, &change);
     disk->kept = disk->now;
+}
+
+const uint8_t *bytes_of(const char *name, size_t *length) {
+    int at = find(&disk->now, name);
+    if (at < 0)
+        return NULL;
+    *length = disk->files[disk->now.at[at].file].length;
+    return disk->files[disk->now.at[at].file].bytes;
+}
+
+/* The same in whatever order the names are. */
+uint64_t sum_of_disk(void) {
+    uint64_t all = 0;
+    for (unsigned n = 0; n < disk->now.count; n++) {
+        const struct file *file = &disk->files[disk->now.at[n].file];
+        uint64_t sum = file->length;
+        for (const char *name = disk->now.at[n].text; *name; name++)
+            sum = (sum ^ (uint8_t)*name) * 0x100000001b3;
+        for (size_t at = 0; at < file->length; at++)
+            sum = (sum ^ file->bytes[at]) * 0x100000001b3;
+        all += sum;
+    }
+    return all;
 }
 
 /* Any file that the disk has or had: often another one whose header has the same worker and segment. */

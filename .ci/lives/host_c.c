@@ -17,16 +17,16 @@ static bool entries(void *server, mtr_host_part *part) {
     return true;
 }
 
-static mtr_host *open_host(unsigned logs, uint64_t segment, uint64_t checkpoint, mtr_place *store, uint64_t *last) {
-    mtr_host_settings settings = {"/sim", logs, segment, checkpoint, entries, NULL};
+static mtr_host *open_host(unsigned logs, uint64_t segment, uint64_t checkpoint, bool accepts_loss, mtr_place *store, uint64_t *last) {
+    mtr_host_settings settings = {"/sim", logs, segment, checkpoint, entries, NULL, 0, accepts_loss};
     return mtr_host_open(&settings, store, last);
 }
 
-bool host_open(unsigned logs, uint64_t segment, uint64_t checkpoint, uint64_t *last) {
+bool host_open(unsigned logs, uint64_t segment, uint64_t checkpoint, bool accepts_loss, uint64_t *last) {
     mtr_place store = {0}, hits = {0};
     uint8_t key[8], value[200], number;
     size_t columns, key_length, length;
-    host = open_host(logs, segment, checkpoint, &store, last);
+    host = open_host(logs, segment, checkpoint, accepts_loss, &store, last);
     if (host == NULL)
         return false;
     spare_memory();
@@ -56,5 +56,5 @@ bool host_close(void) { return mtr_host_close(host); }
 bool host_shares(void) {
     mtr_place store = {0};
     uint64_t last;
-    return open_host(1, 1000, 1000, &store, &last) != NULL;
+    return open_host(1, 1000, 1000, false, &store, &last) != NULL;
 }

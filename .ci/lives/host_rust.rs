@@ -28,8 +28,9 @@ fn told<T>(result: Result<T, HostError>) -> Option<T> {
     result.inspect_err(|error| eprintln!("host: {error}")).ok()
 }
 
-fn open(logs: u32, segment: u64, checkpoint: u64) -> Option<Opened> {
-    told(host::open(Settings { folder: "/sim".into(), logs: logs as usize, segment, checkpoint }))
+fn open(logs: u32, segment: u64, checkpoint: u64, accept_loss: bool) -> Option<Opened> {
+    let (folder, logs) = ("/sim".into(), logs as usize);
+    told(host::open(Settings { folder, logs, segment, checkpoint, max_late: None, accept_loss }))
 }
 
 fn entries(part: &mut Part) -> Result<(), HostError> {
@@ -46,8 +47,8 @@ fn entries(part: &mut Part) -> Result<(), HostError> {
 }
 
 #[no_mangle]
-extern "C" fn host_open(logs: u32, segment: u64, checkpoint: u64, last: &mut u64) -> bool {
-    let Some(opened) = open(logs, segment, checkpoint) else {
+extern "C" fn host_open(logs: u32, segment: u64, checkpoint: u64, accepts_loss: bool, last: &mut u64) -> bool {
+    let Some(opened) = open(logs, segment, checkpoint, accepts_loss) else {
         return false;
     };
     *last = opened.last;
@@ -94,5 +95,5 @@ extern "C" fn host_close() -> bool {
 
 #[no_mangle]
 extern "C" fn host_shares() -> bool {
-    open(1, 1000, 1000).is_some()
+    open(1, 1000, 1000, false).is_some()
 }

@@ -150,7 +150,7 @@ static void start(void) {
     uint64_t last = 0, segment = UINT64_C(100) << any_below(5), checkpoint = UINT64_C(300) << any_below(6);
     logs = 1 + (unsigned)any_below(3);
     requests = 1 + (unsigned)any_below(UINT64_C(1) << any_below(8));
-    bool is_open = host_open(logs, segment, checkpoint, &last);
+    bool is_open = host_open(logs, segment, checkpoint, false, &last);
     must(is_open || machine->failures > 0, "the folder does not open");
     must(is_open || open_files() == 0, "%u files stay open after a refusal", open_files());
     if (!is_open)
@@ -187,6 +187,8 @@ static void choose(uint64_t seed, unsigned number, bool is_last) {
     unsigned what = is_last ? 0 : (unsigned)any_below(8);
     struct event never = {ANY, "", 0, 0}, own = {ANY, "", 1 + seed % 256, 0};
     machine->loyalty = any_below(8);
+    strcpy(machine->slow, any_below(2) == 0 ? "0-" : "1-");
+    machine->slowness = any_below(8) == 0 ? 100 : 0;
     machine->crash = what > 2 ? choose_event(any_below(2) == 0 ? ANY : (enum call)any_below(MEMORY), 8) : never;
     machine->crash.delay = what > 2 ? any_below(10) * any_below(2) : 0;
     machine->failure = what == 1 || what == 2 || what == 7 ? choose_event((enum call)any_below(ANY), 6) : never;

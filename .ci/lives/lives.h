@@ -26,6 +26,8 @@ struct machine {
     bool fails_on;      /* also the next calls of this kind fail */
     uint64_t failures;  /* calls of this process that failed, but for those that are to be made again */
     bool needs_restart; /* one of them was a write or a sync */
+    char slow[8];       /* a sync of a file whose name has this in it lasts so many turns */
+    unsigned slowness;
     unsigned long calls, failed, segments, checkpoints, deletions; /* in all */
     char why[200];      /* what was wrong */
 };
@@ -37,8 +39,12 @@ enum { ENDED = 0, WRONG = 1, CRASHED = 2 };
 void create_machine(void);
 /* Gives it an empty disk, and the random numbers of this seed. */
 void begin_machine(uint64_t seed);
-/* Puts a file there. */
+/* Puts a file there, in place of the one of this name. */
 void lay(const char *name, const void *bytes, size_t length);
+/* The bytes of a file, or NULL if there is none. */
+const uint8_t *bytes_of(const char *name, size_t *length);
+/* A number that another disk hardly has. */
+uint64_t sum_of_disk(void);
 /* Keeps what the last process left: all, or what a crash of the machine leaves. */
 void restart_machine(bool is_crash);
 uint64_t any_below(uint64_t most);
@@ -66,7 +72,7 @@ struct entry {
 };
 
 /* Each returns false if the host refuses or has failed. */
-bool host_open(unsigned logs, uint64_t segment, uint64_t checkpoint, uint64_t *last);
+bool host_open(unsigned logs, uint64_t segment, uint64_t checkpoint, bool accepts_loss, uint64_t *last);
 bool host_start(void);
 bool host_put(unsigned log, struct entry *entry); /* sets its version */
 bool host_wait(uint64_t stamp);
@@ -74,7 +80,7 @@ bool host_close(void);
 /* Whether another host opens the folder too. */
 bool host_shares(void);
 
-/* ---- lives.c: the server ---- */
+/* ---- lives.c or losses.c: the server ---- */
 
 /* The host has recovered this key. */
 void recovered(const char *key, size_t key_length, const char *value, size_t value_length);

@@ -5,6 +5,7 @@
 //! ```text
 //! WORKER-SEGMENT.mtl   a segment of a worker's log
 //! NUMBER-0.mtc         a checkpoint, which has one part
+//! LOSS                 what was lost in starts that accepted it, a line each
 //! NAME.new             a file that is not whole: it takes its name once it is synced
 //! ```
 //!
@@ -14,6 +15,7 @@
 extern crate std;
 
 use alloc::borrow::ToOwned;
+use alloc::collections::VecDeque;
 use alloc::format;
 use alloc::string::{String, ToString};
 use alloc::sync::Arc;
@@ -30,8 +32,8 @@ use std::sync::{Condvar, Mutex, MutexGuard};
 use std::thread::{self, JoinHandle, Thread};
 
 use crate::keeper::{Buffer, Checkpoint, Keeper, KeeperError, Log, NewLog, Resuming, Segment};
-use crate::records::{self, Column, Format, Mark};
-use crate::{Feed, Inputs, OutOfMemory, Store};
+use crate::records::{self, Column, Format, Mark, Resumed};
+use crate::{Feed, Inputs, OutOfMemory, Report, Store};
 
 /// What a host works on.
 #[derive(Clone, Debug)]
@@ -44,6 +46,10 @@ pub struct Settings {
     pub segment: u64,
     /// A checkpoint is made once this many bytes of logs were written.
     pub checkpoint: u64,
+    /// [`open`] refuses to lose more late updates than this. None: it does not count them.
+    pub max_late: Option<u64>,
+    /// [`open`] goes on although updates are lost that no crash loses.
+    pub accept_loss: bool,
 }
 
 /// What a host could not do, and why.
@@ -81,8 +87,18 @@ impl<T, E: Display> Of<T> for Result<T, E> {
 
 // ---- Files ----
 
-/// How many bytes of entries a block of a checkpoint has, and up to one more.
-const ROOM: usize = 1 << 20;
+/// A block of a part has at most this many bytes of entries, or one entry, so that damage costs few of them.
+const BLOCK: usize = 4096;
+
+/// Blocks of a part are written once they have this many bytes.
+const WRITTEN_AT_ONCE: usize = 1 << 20;
+
+/// A log runs at most this many takes ahead of what is acknowledged. Each take ends with a mark: so a crash leaves no more
+/// marks of a log at or past the cutoff, and a start takes more of them for a loss.
+const AHEAD: usize = 16;
+
+/// The file in which losses are noted.
+const NOTES: &str = "LOSS";
 
 fn name_of_log(segment: Segment) -> String {
     format!("{}-{}.mtl", segment.worker, segment.number)
@@ -185,6 +201,24 @@ impl Folder {
         self.file.sync_all().of(name)
     }
 
+    /// Notes the lines that the notes do not have yet. The file gets these permissions.
+    fn note(&self, lines: &[String], permissions: &Permissions) -> Result<(), HostError> {
+        let mut text = match fs::read(self.path.join(NOTES)) {
+            Err(error) if error.kind() == io::ErrorKind::NotFound => Vec::new(),
+            read => read.of(NOTES)?,
+        };
+        for line in lines {
+            if !text.split(|&byte| byte == b'\n').any(|noted| noted == line.as_bytes()) {
+                text.extend_from_slice(line.as_bytes());
+                text.push(b'\n');
+            }
+        }
+        let mut file = self.create(NOTES)?;
+        file.set_permissions(permissions.clone()).of(NOTES)?;
+        file.write_all(&text).of(NOTES)?;
+        self.place(&file, NOTES)
+    }
+
     /// Creates the file of a log.
     fn create_log(&self, log: &NewLog) -> Result<File, HostError> {
         let name = name_of_log(log.segment());
@@ -214,6 +248,11 @@ pub struct Opened {
 
 /// Opens a folder that no other server has open, and that hosts alone wrote, recovers its store, and makes the logs ready for
 /// more.
+///
+/// It refuses what `mtrecover resume` refuses, before any file is changed: a log with more than 16 marks at or past the cutoff
+/// or, with [`Settings::max_late`], more late updates, which may be those of a log that was put back or cut short; a hole
+/// before a segment; records behind a torn tail; a broken part that is newer than the chosen one. Put the lost bytes back.
+/// With [`Settings::accept_loss`] it goes on without them, and the file LOSS in the folder notes what is lost.
 pub fn open(settings: Settings) -> Result<Opened, HostError> {
     let folder = Folder::open(settings.folder.clone())?;
     let found = folder.find()?;
@@ -236,8 +275,27 @@ fn begin(settings: Settings, folder: Folder) -> Result<Opened, HostError> {
 /// A log that the last server left.
 struct Old {
     segment: Segment,
+    /// Then those that replace it.
     bytes: Vec<u8>,
     permissions: Permissions,
+}
+
+impl Old {
+    /// Makes the bytes that replace the log, in place of its own. No file is changed.
+    fn resume(&mut self, cutoff: u64, salt: u64) -> Result<Resumed, HostError> {
+        let name = name_of_log(self.segment);
+        let mut bytes = Vec::new();
+        let resumed = records::resume_log(&mut bytes, &self.bytes, cutoff, salt).of(&name)?;
+        self.bytes = bytes;
+        if resumed.ended {
+            return Err(HostError::new(&name, "is ended"));
+        }
+        Ok(resumed)
+    }
+
+    fn is_sealed(&self) -> bool {
+        self.bytes.starts_with(b"MTL4")
+    }
 }
 
 /// Whether a file has the name that its header of this size says, since files are deleted by their names. One without a whole
@@ -293,37 +351,38 @@ fn salt() -> u64 {
 }
 
 /// Replaces a log by what goes on, and adds it. Returns its file and size.
-fn resume(folder: &Folder, keeper: &mut Resuming, log: Old, cutoff: u64, salt: u64) -> Result<(File, u64), HostError> {
+fn replace(folder: &Folder, keeper: &mut Resuming, log: &Old) -> Result<(File, u64), HostError> {
     let name = name_of_log(log.segment);
-    let mut bytes = Vec::new();
-    records::resume_log(&mut bytes, &log.bytes, cutoff, salt).of(&name)?;
     let mut file = folder.create(&name)?;
-    file.set_permissions(log.permissions).of(&name)?;
-    file.write_all(&bytes).of(&name)?;
+    file.set_permissions(log.permissions.clone()).of(&name)?;
+    file.write_all(&log.bytes).of(&name)?;
     folder.place(&file, &name)?;
-    keeper.add(&bytes).of(&name)?;
-    Ok((file, bytes.len() as u64))
+    keeper.add(&log.bytes).of(&name)?;
+    Ok((file, log.bytes.len() as u64))
 }
 
 /// Goes on with what the last server left.
 fn go_on(settings: Settings, folder: Folder, found: Found) -> Result<Opened, HostError> {
-    let (store, old) = recover(&folder, &found)?;
-    let report = store.report();
+    let (store, mut old) = recover(&folder, &found)?;
+    let (report, salt) = (store.report(), salt());
+    let resumed = (0..).zip(&mut old).map(|(n, log)| log.resume(report.cutoff, salt.wrapping_add(n)));
+    let resumed: Vec<Resumed> = resumed.collect::<Result<_, _>>()?;
+    let losses = Losses { settings: &settings, folder: &folder, old: &old, resumed: &resumed, report: &report };
+    expect_accepted(&settings, &folder, &losses.lines(&found.parts)?, &old)?;
     let (chosen, others): (Vec<u32>, _) = found.parts.iter().partition(|&&n| report.checkpoint == Some(n.into()));
     for number in others {
         folder.delete(&name_of_part(number))?;
     }
-    let (salt, greatest) = (salt(), found.parts.last().copied().unwrap_or(0));
+    let greatest = found.parts.last().copied().unwrap_or(0);
     let mut resuming = Keeper::resume(&store, greatest, salt.wrapping_add(old.len() as u64)).of("the keeper")?;
     // Each worker's newest file, and whether it is of format 4. One that is not is followed by one that is.
     let mut files: Vec<(u32, (File, u64), bool)> = Vec::new();
-    for (n, log) in (0..).zip(old) {
-        let (worker, is_sealed) = (log.segment.worker, log.bytes.starts_with(b"MTL4"));
-        let file = resume(&folder, &mut resuming, log, report.cutoff, salt.wrapping_add(n))?;
-        if files.last().is_some_and(|(last, ..)| *last == worker) {
+    for log in &old {
+        let file = replace(&folder, &mut resuming, log)?;
+        if files.last().is_some_and(|(last, ..)| *last == log.segment.worker) {
             files.pop();
         }
-        files.push((worker, file, is_sealed));
+        files.push((log.segment.worker, file, log.is_sealed()));
     }
     let (keeper, logs) = resuming.finish().of("the keeper")?;
     let (store, last, standing) = (Some(store), report.cutoff.saturating_sub(1), chosen.first().copied());
@@ -339,6 +398,95 @@ fn go_on(settings: Settings, folder: Folder, found: Found) -> Result<Opened, Hos
     Ok(opened)
 }
 
+// ---- Losses ----
+
+/// What a start knows of what was lost.
+struct Losses<'a> {
+    settings: &'a Settings,
+    folder: &'a Folder,
+    old: &'a [Old],
+    resumed: &'a [Resumed],
+    report: &'a Report,
+}
+
+impl Losses<'_> {
+    /// Returns a line for each loss that no crash explains.
+    fn lines(&self, parts: &[u32]) -> Result<Vec<String>, HostError> {
+        let mut lines = if self.is_suspect() { self.lines_of_logs()? } else { Vec::new() };
+        for (part, &number) in (0..).zip(parts) {
+            let is_newer = self.report.checkpoint.map_or(true, |chosen| u64::from(number) > chosen);
+            // A part got its name whole, so that no crash broke it.
+            if is_newer && (self.report.skipped.contains(&number.into()) || self.report.nameless.contains(&part)) {
+                lines.push(format!("checkpoint {number} skipped: it is damaged"));
+            }
+        }
+        Ok(lines)
+    }
+
+    fn is_late(&self) -> bool {
+        self.settings.max_late.is_some_and(|most| self.report.late > most)
+    }
+
+    /// Returns whether recovery lost more of the logs than a crash loses, or may have. Then they are read once more.
+    fn is_suspect(&self) -> bool {
+        let has_many = self.resumed.iter().any(|log| log.late_marks > AHEAD as u64);
+        let may_go_on = self.report.torn > 0 && self.old.iter().any(|log| !log.is_sealed());
+        self.is_late() || self.report.holes > 0 || has_many || may_go_on
+    }
+
+    /// Returns a line for each loss of the logs.
+    fn lines_of_logs(&self) -> Result<Vec<String>, HostError> {
+        let Losses { old, report, .. } = self;
+        let mut endings = Vec::new();
+        for log in *old {
+            let name = name_of_log(log.segment);
+            endings.push(records::log_ending(&self.folder.read(&name)?.0).of(&name)?);
+        }
+        let is_newest = |n: usize| old.get(n + 1).map_or(true, |next| next.segment.worker != old[n].segment.worker);
+        let least = (0..old.len()).find(|&n| is_newest(n) && endings[n].last == report.cutoff);
+        let end = format!("{} ends at {}", least.map_or(String::new(), |n| name_of_log(old[n].segment)), report.cutoff);
+        let mut lines = Vec::new();
+        if self.is_late() {
+            let s = if report.late == 1 { "" } else { "s" };
+            lines.push(format!("{} update{s} late: {end}", report.late));
+        }
+        for (n, log) in old.iter().enumerate() {
+            let marks = self.resumed[n].late_marks;
+            if marks > AHEAD as u64 && endings[n].last > report.cutoff {
+                lines.push(format!("{}: {marks} marks at or past the cutoff; {end}", name_of_log(log.segment)));
+            }
+        }
+        for (n, (log, ending)) in old.iter().zip(&endings).enumerate() {
+            let name = name_of_log(log.segment);
+            let Segment { worker, number } = log.segment;
+            let before = n.checked_sub(1).filter(|&n| (old[n].segment.worker, old[n].segment.number + 1) == (worker, number));
+            let (from, last) = (ending.from, before.map_or(u64::MAX, |n| endings[n].last));
+            if from > report.begin && last < from && last < report.cutoff {
+                lines.push(format!("{name}: a hole from {last} to {from} is before it"));
+            }
+            if ending.goes_on {
+                lines.push(format!("{name}: records follow its torn tail"));
+            }
+        }
+        Ok(lines)
+    }
+}
+
+/// Refuses losses that are not accepted, before any file is changed, so that what was lost may be put back. Those that are
+/// accepted are noted: nothing else tells of them once the logs are replaced.
+fn expect_accepted(settings: &Settings, folder: &Folder, lines: &[String], old: &[Old]) -> Result<(), HostError> {
+    if lines.is_empty() {
+        return Ok(());
+    }
+    if !settings.accept_loss {
+        return Err(HostError::new("loss", lines.join("; ")));
+    }
+    for line in lines {
+        let _ = writeln!(io::stderr(), "host: loss: {line}");
+    }
+    folder.note(lines, &old[0].permissions)
+}
+
 impl Opened {
     /// Creates a log.
     fn add(&mut self, new: NewLog) -> Result<(), HostError> {
@@ -348,7 +496,8 @@ impl Opened {
     }
 
     /// Starts the threads, once the server has what it needs of the store. For each checkpoint `entries` gives
-    /// [`Part::entry`] each key that the server has, read after that call began; after an `Err` the checkpoint is given up.
+    /// [`Part::entry`] each key that the server has, read after that call began, in the order of keys, byte by byte; after an
+    /// `Err` the checkpoint is given up, and nothing is deleted for it.
     pub fn start<E>(self, entries: E) -> Result<Host, HostError>
     where
         E: FnMut(&mut Part) -> Result<(), HostError> + Send + 'static,
@@ -359,7 +508,8 @@ impl Opened {
         let mut writers = Vec::new();
         for (log, file, size) in logs {
             let buffer = Buffer::new();
-            writers.push(Writer { number: state.logs.len(), file, size, covered: last, buffer });
+            let marks = VecDeque::new();
+            writers.push(Writer { number: state.logs.len(), file, size, covered: last, marks, buffer });
             state.logs.push(Some(log));
         }
         let (work, done) = (Condvar::new(), Condvar::new());
@@ -550,14 +700,36 @@ struct Writer {
     size: u64,
     /// The last stamp when the bytes that are synced were taken.
     covered: u64,
+    /// The marks of the last takes, of which the mark that the file begins with is one.
+    marks: VecDeque<u64>,
     buffer: Buffer,
+}
+
+impl Writer {
+    /// Notes the mark of a take. The mark that the file begins with is not above the first one.
+    fn note_mark(&mut self, mark: u64) {
+        if self.marks.is_empty() {
+            self.marks.push_back(mark);
+        }
+        if self.marks.len() == AHEAD {
+            self.marks.pop_front();
+        }
+        self.marks.push_back(mark);
+    }
+
+    /// Returns whether the log has to wait for the others: the mark of the take that was `AHEAD` takes ago is not below what
+    /// is acknowledged. The log that is behind all others never waits.
+    fn is_ahead(&self, below: u64) -> bool {
+        self.marks.len() == AHEAD && self.marks[0] >= below
+    }
 }
 
 impl Shared {
     /// The thread of a log. Each update waits for all logs, so each log is synced after each.
     fn write_log(&self, mut writer: Writer) -> Result<(), HostError> {
         loop {
-            let state = self.wait(&self.work, |state| writer.covered < state.last || state.is_closing);
+            drop(self.wait(&self.work, |state| writer.covered < state.last || state.is_closing));
+            let state = self.wait(&self.done, |state| !writer.is_ahead(state.below));
             if state.failure.is_some() || writer.covered >= state.last {
                 return Ok(());
             }
@@ -574,6 +746,7 @@ impl Shared {
         if marked != Err(KeeperError::Early) {
             marked.of("a mark")?;
         }
+        writer.note_mark(last + 1);
         let taken = state.keeper.take(&log, &mut writer.buffer).of("records")?;
         let full = if writer.size >= self.settings.segment {
             Some(log)
@@ -616,37 +789,57 @@ pub struct Part {
     /// Of the file.
     mark: Mark,
     entries: u32,
+    /// The key of the last entry.
+    key: Vec<u8>,
     /// What follows in the next block.
     bytes: Vec<u8>,
+    /// Blocks that are not written yet.
+    blocks: Vec<u8>,
     /// Whether an entry was not written.
     is_lost: bool,
 }
 
 impl Part {
     /// Writes the entry of a key: all columns that it has, whose numbers rise, read in one step with its version, the stamp of
-    /// its last update, or [`Opened::last`] if that was recovered. A key without columns has no entry. After an `Err` the
-    /// checkpoint is given up.
+    /// its last update, or [`Opened::last`] if that was recovered. A key without columns has no entry. Each key is above the
+    /// last one, byte by byte. After an `Err` the checkpoint is given up, and nothing is deleted for it.
     pub fn entry(&mut self, version: u64, key: &[u8], columns: &[Column]) -> Result<(), HostError> {
         let written = self.append(version, key, columns);
         self.is_lost |= written.is_err();
         written
     }
 
+    /// Appends an entry, which begins the next block if it has no room in this one.
     fn append(&mut self, version: u64, key: &[u8], columns: &[Column]) -> Result<(), HostError> {
+        if self.entries > 0 && key <= &*self.key {
+            return Err(HostError::new("an entry", "its key is not above the last one"));
+        }
+        let before = self.bytes.len();
         records::entry(&mut self.bytes, Format::Two, version, key, columns).of("an entry")?;
         self.entries = self.entries.checked_add(1).ok_or("too many").of("entries")?;
-        if self.bytes.len() >= ROOM {
-            self.flush()?;
+        self.key.clear();
+        self.key.extend_from_slice(key);
+        if before > 0 && self.bytes.len() > BLOCK {
+            self.seal(before)?;
         }
         Ok(())
     }
 
-    /// Writes a block.
-    fn flush(&mut self) -> Result<(), HostError> {
-        let mut block = Vec::new();
-        records::seal(&mut block, self.mark, &self.bytes).of("a part")?;
-        self.bytes.clear();
-        self.file.write_all(&block).of("a part")
+    /// Seals a block of the first `length` bytes.
+    fn seal(&mut self, length: usize) -> Result<(), HostError> {
+        records::seal(&mut self.blocks, self.mark, &self.bytes[..length]).of("a part")?;
+        self.bytes.drain(..length);
+        if self.blocks.len() >= WRITTEN_AT_ONCE {
+            self.write()?;
+        }
+        Ok(())
+    }
+
+    /// Writes the blocks that are sealed.
+    fn write(&mut self) -> Result<(), HostError> {
+        self.file.write_all(&self.blocks).of("a part")?;
+        self.blocks.clear();
+        Ok(())
     }
 }
 
@@ -691,18 +884,18 @@ impl Shared {
         checkpoint: Checkpoint,
         entries: &mut impl FnMut(&mut Part) -> Result<(), HostError>,
     ) -> Result<(File, u64), HostError> {
-        let (mut file, mut header) = (self.folder.create(name)?, Vec::new());
+        let (file, mut blocks) = (self.folder.create(name)?, Vec::new());
         let Checkpoint { number, begin } = checkpoint;
-        let mark = records::part_header_4(&mut header, salt(), number, begin, 0, 1).of("a part")?;
-        file.write_all(&header).of("a part")?;
-        let mut part = Part { file, mark, entries: 0, bytes: Vec::new(), is_lost: false };
+        let mark = records::part_header_4(&mut blocks, salt(), number, begin, 0, 1).of("a part")?;
+        let mut part = Part { file, mark, entries: 0, key: Vec::new(), bytes: Vec::new(), blocks, is_lost: false };
         entries(&mut part)?;
         if part.is_lost {
             return Err(HostError::new(name, "lacks an entry"));
         }
         let end = self.lock().keeper.end_checkpoint().of("a checkpoint")?;
         records::part_footer(&mut part.bytes, end, part.entries).of("a part")?;
-        part.flush()?;
+        part.seal(part.bytes.len())?;
+        part.write()?;
         Ok((part.file, end))
     }
 

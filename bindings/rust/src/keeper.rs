@@ -285,8 +285,10 @@ impl Keeper {
         answered(unsafe { c::mtr_log_mark(self.0.raw(), log.number) })
     }
 
-    /// Takes all that was appended to the log since the last call, to be appended to its file and synced. `Early`: the bytes
-    /// of the last call are not synced.
+    /// Takes all that was appended to the log since the last call, to be appended to its file and synced. Let no log run more
+    /// than 16 takes ahead: wait while the mark of the take 16 takes ago is not below what
+    /// [`Keeper::acknowledged_below`] tells. Starts refuse a log with more than 16 marks at or past the cutoff. `Early`: the
+    /// bytes of the last call are not synced.
     pub fn take<'b>(&mut self, log: &Log, buffer: &'b mut Buffer) -> Result<Taken<'b>, KeeperError> {
         let mut raw = NOTHING;
         // SAFETY: one place holds a keeper, and the buffer nothing or bytes.
@@ -344,7 +346,8 @@ impl Keeper {
     }
 
     /// Begins a checkpoint. Then read each key in one step, between its updates: the version of its entry is the stamp of its
-    /// last update. `Early`: one is being made.
+    /// last update. Keys rise, strictly, in the order of their bytes, within each part and from one part to the next: a
+    /// checkpoint whose keys do not rise is not valid. `Early`: one is being made.
     pub fn begin_checkpoint(&mut self) -> Result<Checkpoint, KeeperError> {
         let mut made = Checkpoint { number: 0, begin: 0 };
         // SAFETY: the place holds a keeper.

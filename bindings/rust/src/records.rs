@@ -184,7 +184,8 @@ pub fn part_header_4(
     Ok(Mark(mark))
 }
 
-/// Appends the entry of a key with these columns, whose numbers rise, to a part of this format.
+/// Appends the entry of a key with these columns, whose numbers rise, to a part of this format. Each key of a part is above
+/// the one before it, in the order of their bytes: see to it, since no call here knows the one before.
 pub fn entry(
     out: &mut Vec<u8>,
     format: Format,

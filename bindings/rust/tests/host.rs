@@ -18,7 +18,7 @@ impl Folder {
     }
 
     fn settings(&self) -> Settings {
-        Settings { folder: self.0.clone(), logs: 2, segment: 500, checkpoint: 2000 }
+        Settings { folder: self.0.clone(), logs: 2, segment: 500, checkpoint: 2000, max_late: None, accept_loss: false }
     }
 
     /// Opens the folder. Returns its store too.
@@ -171,6 +171,59 @@ fn parts_of(name: &str, entries: impl FnMut(&mut Part) -> Result<(), HostError> 
 #[test]
 fn a_checkpoint_that_fails_is_given_up() {
     assert!(parts_of("failing", |_| Err(HostError::new("a key", "lost"))).is_empty());
+}
+
+#[test]
+fn a_checkpoint_whose_keys_do_not_rise_is_given_up() {
+    for keys in [[b"b", b"a"], [b"a", b"a"]] {
+        let entries = move |part: &mut Part| keys.iter().try_for_each(|&key| part.entry(1, key, &[Column::new(0, b"v")]));
+        assert!(parts_of("falling", entries).is_empty());
+    }
+}
+
+/// Two logs, of which one was put back as it was 20 updates ago. Each update is a take in each log, with a mark.
+fn older_copy(name: &str) -> Folder {
+    let folder = Folder::new(name);
+    let settings = Settings { segment: u64::MAX, checkpoint: u64::MAX, ..folder.settings() };
+    let host = host::open(settings).unwrap().start(entries).unwrap();
+    host.wait(put(&host, 1, "a")).unwrap();
+    let copy = fs::read(folder.0.join("1-0.mtl")).unwrap();
+    for _ in 0..20 {
+        host.wait(put(&host, 0, "a")).unwrap();
+    }
+    host.close().unwrap();
+    fs::write(folder.0.join("1-0.mtl"), copy).unwrap();
+    folder
+}
+
+// The first log begins with a mark at 1. So the first put has the stamp 2, and log 1 a mark at 3, where its copy ends. Log 0 has
+// that mark too, and those of the other puts.
+const LOST: &str = "0-0.mtl: 21 marks at or past the cutoff; 1-0.mtl ends at 3";
+
+#[test]
+fn an_older_copy_of_a_log_is_refused() {
+    let folder = older_copy("older");
+    let read = || fs::read(folder.0.join("0-0.mtl")).unwrap();
+    let before = read();
+    assert_eq!(folder.refusal(), format!("loss: {LOST}"));
+    assert!(read() == before && folder.names("LOSS").is_empty());
+}
+
+#[test]
+fn a_loss_that_is_accepted_is_noted_once() {
+    let folder = older_copy("accepted");
+    fs::write(folder.0.join("LOSS"), "an older one\n").unwrap();
+    host::open(Settings { accept_loss: true, ..folder.settings() }).unwrap();
+    assert_eq!(fs::read_to_string(folder.0.join("LOSS")).unwrap(), format!("an older one\n{LOST}\n"));
+    assert_eq!(folder.open().1.unwrap().report().late, 0);
+}
+
+#[test]
+fn late_updates_are_counted_if_that_is_wanted() {
+    let folder = older_copy("counted");
+    let few = Settings { max_late: Some(3), ..folder.settings() };
+    let refusal = host::open(few).err().unwrap().to_string();
+    assert_eq!(refusal, format!("loss: 20 updates late: 1-0.mtl ends at 3; {LOST}"));
 }
 
 #[test]
