@@ -1,11 +1,14 @@
-//! What a writer's journal says of its file, and each call of the file's steps.
-ghost use Rattle.std.specs.Prelude.{false, Option, List, ℕ};
+//! What a writer's journal says of its file, and each call of the file's steps. What the file of a part says.
+ghost use Rattle.std.specs.Prelude.{◌≡◌, [], Some, false, Option, List, ℕ};
 ghost use Rattle.mt_words.specs.Changes.{Logged};
+ghost use Rattle.mt_words.specs.declared.record.Change.{Change};
 ghost use Rattle.mt_record.specs.declared.feed.head.Head.{Head};
 ghost use Rattle.mt_record.specs.Logs.{log_bytes};
 ghost use Rattle.mt_record.specs.Opening.{Opens};
+ghost use Rattle.mt_record.specs.Parts.{IsPartReading};
 ghost use Rattle.mt_writer.specs.Framing.{IsFileWith};
 ghost use Rattle.mt_writer.specs.Files.{OpenFile, IsOpenFile, IsWritten, IsSynced};
+ghost use Rattle.mt_writer.specs.PartFiles.{Part, IsPartOf, reading_of};
 ghost use Rattle.mt_writer.specs.Journals.{Journal, Writer, Keeps, file_of, holding, taking, syncing, IsReached};
 
 /// States that the file of a journal that a writer keeps is an open file, and that appending a record and taking bytes
@@ -29,4 +32,11 @@ pub fn a_reach_stays_true()
 pub fn a_file_has_its_text()
     ensures { (mark : Option ℕ) (head : Head) (records : List Logged) (bytes : List ℕ) → IsFileWith mark head records bytes →
         Opens bytes (log_bytes head records) false }
+{}
+
+/// States that a part that has ended, of which all bytes were taken, is read as a part with its entries and its end. This
+/// is a law: it has nothing to run.
+pub fn a_written_part_is_read()
+    ensures { (w : Part) (above : Option (List ℕ)) (entries : List Change) (taken : List ℕ) (end : ℕ) → IsPartOf w above entries taken → w.end ≡ Some end → w.ready ≡ [] →
+        IsPartReading taken (reading_of w.header entries end) }
 {}

@@ -27,13 +27,19 @@ mod held;
 mod laws;
 mod log_writer;
 mod new_log;
+mod part_fault;
+mod part_writer;
 mod reaches;
 #[cfg(test)]
 mod tests;
 mod writer_fault;
 
-pub use laws::{a_file_has_its_text, a_journal_is_an_open_file, a_reach_stays_true};
+pub use laws::{
+    a_file_has_its_text, a_journal_is_an_open_file, a_reach_stays_true, a_written_part_is_read,
+};
 pub use log_writer::{LONGEST_RECORD, LogWriter};
 pub use new_log::NewLog;
+pub use part_fault::PartWriterFault;
+pub use part_writer::{PartWriter, SMALL};
 pub use reaches::least_reach;
 pub use writer_fault::WriterFault;

@@ -1,6 +1,6 @@
-//! Tests of what no contract says: that a log takes records and hands them out, and is sealed.
-use crate::{LogWriter, NewLog, WriterFault};
-use mt_block::Header;
+//! Tests of what no contract says: that a log takes records and hands them out, and is sealed, and that a part is written.
+use crate::{LogWriter, NewLog, PartWriter, PartWriterFault, WriterFault};
+use mt_block::{Header, PartHeader};
 use mt_record::{Given, Rest, read_log};
 
 const HEADER: Header = Header {
@@ -57,4 +57,51 @@ fn an_ended_log_takes_no_mark(rt: HostRuntime) {
     let mut log = new.created();
     assert!(&rt; log.end().is_ok());
     assert_eq!(&rt; log.mark(6), Err(WriterFault::Ended));
+}
+
+const PART: PartHeader = PartHeader {
+    salt: 1,
+    number: 7,
+    part: 1,
+    parts: 2,
+    begin: 100,
+};
+
+/// Appends the entry of a key, with one column of one byte.
+fn enter(part: &mut PartWriter, key: &[u8]) -> Result<(), PartWriterFault> {
+    let column = Given {
+        number: 0,
+        bytes: b"z",
+    };
+    part.entry(9, key, &[column])
+}
+
+#[test]
+fn a_part_has_its_entries(rt: HostRuntime) {
+    let alloc = rt.alloc();
+    let mut part = PartWriter::begin_above(alloc, PART, b"b").expect(&rt, "memory");
+    assert_eq!(&rt; enter(&mut part, b"c"), Ok(()));
+    assert_eq!(&rt; part.end(100), Ok(()));
+    let bytes = part.take(Vec::new(alloc));
+    assert_eq!(&rt; bytes.as_slice(), ONE_ENTRY);
+}
+
+/// Part 1 of 2: its header, the head of a block, one entry, the footer, and the checksum of the block.
+const ONE_ENTRY: &[u8] =
+    b"MTC4\0\0\0\0\0\0\0\x01\0\0\0\x07\0\x01\0\x02\0\0\0\x01\0\0\0\0\0\0\0\x64\xc0\xf4\x56\x4b\
+    \xc0\xf4\x56\x4b\0\0\0\x28\x23\xa1\0\x9e\
+    \0\0\0\x10\0\0\0\0\0\0\0\x09\0\x01c\x01\0\0\x01z\0\0\0\x10\
+    \0\0\0\0\0\0\0\0\0\0\0\x64\0\0\0\x01\
+    \xc4\xe4\xde\x78";
+
+#[test]
+fn keys_rise(rt: HostRuntime) {
+    let mut part = PartWriter::begin_above(rt.alloc(), PART, b"b").expect(&rt, "memory");
+    assert_eq!(&rt; enter(&mut part, b"b"), Err(PartWriterFault::Order));
+    assert_eq!(&rt; enter(&mut part, b"c"), Ok(()));
+    assert_eq!(&rt; enter(&mut part, b"c"), Err(PartWriterFault::Order));
+    assert_eq!(&rt; enter(&mut part, b"ca"), Ok(()));
+    assert_eq!(&rt; part.end(99), Err(PartWriterFault::End));
+    assert_eq!(&rt; part.end(100), Ok(()));
+    assert_eq!(&rt; enter(&mut part, b"d"), Err(PartWriterFault::Ended));
 }
