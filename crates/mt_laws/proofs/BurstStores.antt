@@ -97,6 +97,7 @@ same_outcome logs others parts outcome is read sizes =
           ends = found.ends;
           last = found.last;
           version = found.version;
+          version_below_cutoff = found.version_below_cutoff;
           cutoff = found.cutoff;
           checkpoint = found.checkpoint;
           begin = found.begin;

@@ -1,8 +1,9 @@
 -- Recovery from a fresh start, and from the logs after it.
 use Rattle.std.proofs.Common.{◌≡◌, ◌⊎◌, inl, inr, ℕ, zero, suc, ◌+◌, ◌<◌, ◌≤◌, max, true, IsTrue, Option, Some, None, List, [], ◌∷◌, ◌++◌, map, Contains, refl, sym, ap, ◌∙◌, subst, arith}
-use Rattle.std.specs.List.{flat_map}
+use Rattle.std.specs.Prelude.{nat_le, nat_lt}
+use Rattle.std.specs.List.{filter, flat_map}
 use Rattle.std.specs.Option.{option_map}
-use Rattle.std.proofs.lemmas.Bool.{false≢true}
+use Rattle.std.proofs.lemmas.Bool.{false≢true, and_parts}
 use Rattle.std.proofs.lemmas.List.{append-nil}
 use Rattle.std.proofs.lemmas.List.Elements.{All-contains, Contains-append_cases, Contains-append_left, Contains-append_right}
 use Rattle.mt_words.specs.declared.fault.Fault.{Fault}
@@ -31,9 +32,9 @@ use Rattle.mt_replay.specs.KeyColumns.{HasColumn}
 use Rattle.mt_replay.specs.declared.window.Window.{Window}
 use Rattle.mt_replay.specs.Survivors.{wholes, in_window, log_survivors}
 use Rattle.mt_replay.specs.Walk.{IsWalk}
-use Rattle.mt_replay.proofs.Members.{of_map, in_map, of_filter}
+use Rattle.mt_replay.proofs.Members.{of_map, in_map, of_filter, in_filter}
 use Rattle.mt_recover.specs.Recovery.{AreReadings, entry_updates, begin_of, survivors, Facts, records_of, IsStoreOf}
-use Rattle.mt_recover.specs.Report.{logged_updates, all_versions, Outcome, IsRecoveredOf}
+use Rattle.mt_recover.specs.Report.{logged_updates, is_below, versions_below, Outcome, IsRecoveredOf}
 use Rattle.mt_recover.specs.Verdict.{IsVerdict}
 use Rattle.mt_recover.proofs.OneVerdict.{one_store, no_verdict, same_facts}
 use Rattle.mt_writer.specs.Files.{OpenFile, file_bytes, file_reading, HasSynced, IsOpenFile}
@@ -329,23 +330,27 @@ later_store pairs checkpoint later files (log ∷ logs) is_map is all are on =
     } in
     store_of later files facts on.no_gap
 
--- no survivor has a version above the report's
+-- no survivor has a version above the report's below the cutoff
 version_bound : (logs parts : List (List ℕ)) (outcome : Outcome) (is : IsRecoveredOf logs parts outcome) (u : Update)
-    → Contains (surviving is.store.basis.facts) u → u.stamp.version ≤ outcome.report.version
+    → Contains (surviving is.store.basis.facts) u → u.stamp.version ≤ outcome.report.version_below_cutoff
 version_bound logs parts outcome is u at =
     let facts = is.store.basis.facts in
     let all = logged_updates facts.readings in
+    let early = filter (is_below facts.cutoff) all in
     let entries = entry_updates facts.chosen in
     let window : Window = record { begin = begin_of facts.chosen; cutoff = facts.cutoff } in
-    let there : Contains (all ++ entries) u = elim (Contains-append_cases (log_survivors window (records_of facts.readings)) entries u at) as (λ _. Contains (all ++ entries) u) [
-      | inl logged ↦ Contains-append_left all entries u (of_filter (in_window window) all u logged).0
-      | inr entry ↦ Contains-append_right all entries u entry
+    let there : Contains (early ++ entries) u = elim (Contains-append_cases (log_survivors window (records_of facts.readings)) entries u at) as (λ _. Contains (early ++ entries) u) [
+      | inl logged ↦
+          let found = of_filter (in_window window) all u logged in
+          Contains-append_left early entries u (in_filter (is_below facts.cutoff) all u (and_parts (nat_le window.begin u.timestamp) (nat_lt u.timestamp facts.cutoff) found.1).1 found.0)
+      | inr entry ↦ Contains-append_right early entries u entry
     ] in
-    All-contains (λ (n : ℕ). n ≤ outcome.report.version) (0 ∷ all_versions facts.readings facts.chosen) u.stamp.version is.report.found.version.1
-    (tail_in 0 u.stamp.version (all_versions facts.readings facts.chosen) (in_map (λ (x : Update). x.stamp.version) (all ++ entries) u there))
+    All-contains (λ (n : ℕ). n ≤ outcome.report.version_below_cutoff) (0 ∷ versions_below facts.cutoff facts.readings facts.chosen) u.stamp.version
+    is.report.found.version_below_cutoff.1
+    (tail_in 0 u.stamp.version (versions_below facts.cutoff facts.readings facts.chosen) (in_map (λ (x : Update). x.stamp.version) (early ++ entries) u there))
 
 pub goes_on_afresh : (logs parts later files : List (List ℕ)) (before after : Outcome) (checkpoint : Checkpoint) (was : IsRecoveredOf logs parts before)
-    → HasPairs before.store checkpoint → before.report.version ≤ checkpoint.version → AreAllParts checkpoint files → (is : IsRecoveredOf later files after)
+    → HasPairs before.store checkpoint → before.report.version_below_cutoff ≤ checkpoint.version → AreAllParts checkpoint files → (is : IsRecoveredOf later files after)
     → checkpoint.cutoff < after.report.cutoff → AreAbove checkpoint (updates_after checkpoint is.store.basis.facts)
     → IsWalk (surviving was.store.basis.facts ++ updates_after checkpoint is.store.basis.facts) after.store
 goes_on_afresh logs parts later files before after checkpoint was has version all is past above =
@@ -356,7 +361,7 @@ goes_on_afresh logs parts later files before after checkpoint was has version al
     let chosen = chooses before.store checkpoint later files facts was.store.walk.map has all below in
     let are : AreOlderAndNewer checkpoint.version before.store older newer = record {
       walk = was.store.walk;
-      low = λ u at. let most : u.stamp.version ≤ before.report.version = version_bound logs parts before was u at in omega (arith, most, version);
+      low = λ u at. let most : u.stamp.version ≤ before.report.version_below_cutoff = version_bound logs parts before was u at in omega (arith, most, version);
       high = above;
     } in
     let walk = subst (λ (c : Option CheckpointReading). IsWalk (survivors facts.cutoff c (records_of facts.readings)) after.store) chosen is.store.walk in
@@ -367,7 +372,7 @@ goes_on_afresh logs parts later files before after checkpoint was has version al
 
 -- the files are a fresh start of a life
 pub fresh_step : (logs parts : List (List ℕ)) (before : Outcome) (checkpoint : Checkpoint) (was : IsRecoveredOf logs parts before) → HasPairs before.store checkpoint
-    → checkpoint.cutoff ≡ before.report.cutoff → before.report.version ≤ checkpoint.version
+    → checkpoint.cutoff ≡ before.report.cutoff → before.report.version_below_cutoff ≤ checkpoint.version
     → IsFreshStart was.store.basis.facts (log_file checkpoint) (reading_with checkpoint before.store)
 fresh_step logs parts before checkpoint was has at version =
     let facts = was.store.basis.facts in
@@ -376,7 +381,7 @@ fresh_step logs parts before checkpoint was has at version =
       pairs = before.store;
       walk = was.store.walk;
       version = checkpoint.version;
-      most = λ u among. let low : u.stamp.version ≤ before.report.version = version_bound logs parts before was u among in omega (arith, low, version);
+      most = λ u among. let low : u.stamp.version ≤ before.report.version_below_cutoff = version_bound logs parts before was u among in omega (arith, low, version);
       begins = same;
       ends = same;
       entries = refl;

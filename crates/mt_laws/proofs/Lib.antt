@@ -35,6 +35,7 @@ pub mod Living
 pub mod SomeLife
 pub mod FreshParts
 pub mod FreshStores
+pub mod FreshVersions
 pub mod SoundStays
 pub mod KeptLogs
 pub mod Afresh

@@ -26,7 +26,7 @@ pub use crashes::{
     a_crash_loses_nothing_below_the_cutoff, a_cut_log_is_a_log, acknowledged_is_safe,
 };
 pub use damage::{a_changed_bit_is_seen, a_changed_part_is_no_part};
-pub use fresh::a_fresh_start_is_the_same_store;
+pub use fresh::{a_fresh_start_goes_on, a_fresh_start_is_the_same_store};
 pub use lives::{a_crash_of_names, a_life_of_crashes, versions_may_be_timestamps};
 pub use part_files::{
     a_checkpoint_written_while_running, a_crash_makes_no_checkpoint_valid,
