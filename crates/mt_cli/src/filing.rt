@@ -92,7 +92,7 @@ fn cut_into<'a, R: Host, O: Write, E: Write>(
     };
     match done {
         Ok(()) => {
-            finish_path(rt, target, file)?;
+            finish_path(rt, target, look, file)?;
             Ok(None)
         }
         Err(halt) => Err(give_up_path(rt, target, halt)),

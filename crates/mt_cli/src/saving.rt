@@ -326,16 +326,26 @@ pub fn begin_path<R: Host>(rt: &R, path: &str, input: &str) -> Result<R::File, H
 }
 
 /// Gives a file that was begun this path, in one step, and syncs the folder that it is in. A file that has the same bytes stays as
-/// it is.
-pub fn finish_path<R: Host>(rt: &R, path: &str, file: R::File) -> Result<(), Halt<'static>> {
+/// it is. Refuses if the file that is there is not as it was in this look.
+pub fn finish_path<R: Host>(
+    rt: &R,
+    path: &str,
+    look: Option<Look>,
+    file: R::File,
+) -> Result<(), Halt<'static>> {
     let target = Path::new("").join(rt.alloc(), path)?;
     let site = site_of(rt, path);
     if has_same_bytes(rt, &target).unwrap_or(false) {
         site.give_up(&target);
         site.tell_synced(path, sync_path(rt, path))?;
-    } else {
-        site.tell("write", path, site.finish(file, &target))?;
+        return site.sync();
     }
+    site.tell("write", path, file.sync_all())?;
+    if let Err(halt) = expect_path(rt, path, look) {
+        site.give_up(&target);
+        return Err(halt);
+    }
+    site.tell("write", path, site.rename(&target))?;
     site.sync()
 }
 
