@@ -1,6 +1,7 @@
 //! What follows the complete records of a log, or the entries of a part.
 use crate::hints::{Feeds, Hints, zeros_at_end};
 use crate::intake::{Intake, LogIntake};
+use crate::torn::may_begin_record;
 use mt_record::{Items, find_items};
 use mt_recover::Refusal;
 use mt_words::{Format, Memory};
@@ -17,7 +18,7 @@ pub struct Ending {
     pub bytes: usize,
     /// How many of them, at their end, are 0.
     pub zeros: usize,
-    /// Where records go on after damage, if they do.
+    /// Where records go on after damage, if they do. A torn record whose value can hold all of them is no damage.
     pub again: Option<Again>,
     /// What may have happened to them.
     pub hints: Option<Hints>,
@@ -32,38 +33,53 @@ pub struct Again {
     pub records: usize,
 }
 
+impl Again {
+    /// Returns where records of this format go on in these bytes, which begin at the byte `end` of a log. None: nowhere. Err: out of
+    /// memory.
+    fn in_rest(
+        alloc: Global,
+        format: Format,
+        end: usize,
+        rest: &[u8],
+    ) -> Result<Option<Again>, Memory> {
+        let found = find_items(alloc, Items::Records, format, rest)?;
+        Ok(
+            found.first().map(|first| Again {
+                at: end.saturating_add(first.skipped.len()),
+                records: found.len(),
+            }),
+        )
+    }
+}
+
 impl Ending {
     /// Returns what follows the records of a log that was read to its end. None: nothing. Err: out of memory.
     pub fn of_log<F>(
         alloc: Global,
         log: &LogIntake<F>,
     ) -> Result<Option<Ending>, Refusal<'static>> {
-        let format = log.front()?.head.format;
-        let ending = Ending::of(alloc, format, log.end(), log.rest(), log.file.feeds)?;
+        let front = log.front()?;
+        let format = front.head.format;
+        let rest = log.rest();
+        let again = if may_begin_record(format, front.latest, rest) {
+            None
+        } else {
+            Again::in_rest(alloc, format, log.end(), rest)?
+        };
+        let ending = Ending::of(log.end(), rest, again, log.file.feeds);
         Ok((ending.bytes > 0).then_some(ending))
     }
 
     /// Returns what is in a log that has no header: all that its file holds. None: nothing. Err: out of memory.
     pub fn of_all<F>(alloc: Global, file: &Intake<F>) -> Result<Option<Ending>, Memory> {
-        let ending = Ending::of(alloc, WIDEST, 0, &file.held, file.feeds)?;
+        let again = Again::in_rest(alloc, WIDEST, 0, &file.held)?;
+        let ending = Ending::of(0, &file.held, again, file.feeds);
         Ok((ending.bytes > 0).then_some(ending))
     }
 
-    /// Returns what follows in a log of this format, whose complete records end at the byte `end`, from the line feeds of
-    /// all its bytes.
-    fn of(
-        alloc: Global,
-        format: Format,
-        end: usize,
-        rest: &[u8],
-        feeds: Feeds,
-    ) -> Result<Ending, Memory> {
-        let found = find_items(alloc, Items::Records, format, rest)?;
-        let again = found.first().map(|first| Again {
-            at: end.saturating_add(first.skipped.len()),
-            records: found.len(),
-        });
-        Ok(Ending {
+    /// Returns what follows in a log, whose complete records end at the byte `end`, from the line feeds of all its bytes.
+    fn of(end: usize, rest: &[u8], again: Option<Again>, feeds: Feeds) -> Ending {
+        Ending {
             bytes: rest.len(),
             zeros: zeros_at_end(rest),
             again,

@@ -60,6 +60,7 @@ mod texts;
 mod told;
 mod tracing;
 mod watching;
+mod torn;
 mod ways;
 mod words;
 

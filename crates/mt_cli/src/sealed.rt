@@ -2,7 +2,10 @@
 use crate::ending::{Again, Ending};
 use crate::hints::zeros_at_end;
 use crate::salvaging::Placed;
-use mt_block::{FRAME_BYTES, PartHeader, find_head, next_block, part_header_at};
+use crate::torn::may_begin_record;
+use mt_block::{
+    FRAME_BYTES, PartHeader, find_head, has_some_head, header_at, next_block, part_header_at,
+};
 use mt_record::{
     BlockAt, FOOTER_BYTES, Items, KeptRecords, LogFeed, LogFront, OpenedFile, PartHead, find_items,
     footer_of, open_file,
@@ -301,6 +304,11 @@ pub fn pieces_from(
 pub fn text_head(header: PartHeader) -> PartHead {
     let PartHeader {
         number,
+        let text = self.first.text.get(at..).unwrap_or(&[]);
+        let front = &self.front;
+        if behind.is_empty() && may_begin_record(front.head.format, front.latest, text) {
+            return Ok(Some(ending_of(rest, &[])));
+        }
         part,
         parts,
         begin,
