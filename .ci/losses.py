@@ -9,9 +9,9 @@ import struct
 from functools import lru_cache
 from typing import NamedTuple
 
-from blocks import header_of, length_at, read_part
+from blocks import header_of, length_at, read_part, sealed
 from counting import count
-from damage import make_store, store_of
+from damage import BEAT, PLAIN, WORKERS, make_store, store_of
 from formats import PUT, Update, columns_bytes, framed, header, mark, record
 from page import AS_TEXT, BROKEN, FIRST, LATE, NO_LOGS, TORN, WAYS, lines_of, name_of, shell
 from stores import dump, dump_lines, run
@@ -62,6 +62,24 @@ def make(rng):
     store = make_store(rng, COMMIT)
     torn = record(Update(store.log("w1-0.mtl").last() + 1, 1, PUT, b"torn", ((0, b"hello"),)))
     return Files(store, {**store.files(), "w1-0.mtl": store.log("w1-0.mtl").content + torn[:-7]})
+
+
+# So many records are in a block.
+IN_A_BLOCK = 10
+
+
+def in_blocks(files):
+    """Returns the files with their logs in format 4, under the names that keepers give them."""
+    store, others = files.store, {name: content for name, content in files.items() if not name.endswith(".mtl")}
+    logs = {}
+    for log in store.logs:
+        worker, segment = log.head.worker % PLAIN, log.head.segment
+        begun = header(3, log.head.start, worker, segment)
+        ends = [len(begun) + lying.end() - len(log.head.content()) for lying in log.records]
+        text = begun + log.content[len(log.head.content()) :]
+        cuts = [*ends[IN_A_BLOCK - 1 : -1 : IN_A_BLOCK], ends[-1]]
+        logs[f"{worker}-{segment}.mtl"] = sealed(text, 1000 * worker + segment, len(WORKERS), cuts)
+    return Files(store, {**logs, **others})
 
 
 # ---- Damages ----
@@ -278,6 +296,22 @@ DAMAGES = [
 ]
 
 
+# Of logs in format 4.
+IN_BLOCKS = [
+    Damage("format 4: a bit of the magic", flip_head("4-1.mtl", 3, 0), "header"),
+    Damage("a bit of the salt", flip_head("4-1.mtl", 6, 3), "header"),
+    Damage("a bit of the worker", flip_head("4-1.mtl", 19, 1), "header"),
+    Damage("a bit of a last segment's number", flip_head("4-2.mtl", 27, 4), "header"),
+    Damage("a bit of a first segment's workers", flip_head("0-0.mtl", 31, 2), "header"),
+    Damage("a bit of `from`", flip_head("5-1.mtl", 38, 5), "header"),
+    Damage("a bit of the mark", flip_head("5-0.mtl", 41, 6), "header"),
+    Damage("`from` and workers lost", zeros("4-1.mtl", 28, 12), "header"),
+    Damage("header of a segment lost", zeros("4-1.mtl", 0, 512), "header", rule=BLOCK),
+    Damage("header of a last segment lost", zeros("4-2.mtl", 0, 512), "header", rule=BLOCK),
+    Damage("a middle segment gone", gone("4-1.mtl"), "gap"),
+]
+
+
 # ---- The least loss ----
 
 
@@ -430,6 +464,9 @@ class Operator:
         if what in ("record", "checksum"):
             skip = most([way for way in ways[::-1] if way["way"] in ("skip", "cut")])["way"] == "skip"
             return Step("record", WAYS[what][0] if skip else WAYS[what][0].replace(" --skip", ""), [name])
+        stray = re.search(r"(?m)^hint: (\S+): without it checkpoint ", said)
+        if what == "gap" and stray and stray[1] not in self.names:
+            return Step("not ours", "mv DIR/F AWAY", [stray[1]])
         if what == "gap" and broken:
             return Step("broken", WAYS[BROKEN][0], [broken[1]])
         if what in ("header", "gap"):
@@ -505,12 +542,14 @@ def try_losses(work):
     files = make(random.Random(0))
     store, checkpoint = files.store, files.store.checkpoint
     try_each(DAMAGES, Truth(updates_of(store), checkpoint.begin, checkpoint.entries), files)
+    try_each(IN_BLOCKS, Truth(updates_of(store), checkpoint.begin, checkpoint.entries), in_blocks(files))
     # Parts that old logs were deleted for, and that of a fresh start, in format 4.
     pruned = Files(store.pruned(), store.pruned().files())
     truth = Truth(updates_of(pruned.store), checkpoint.begin, checkpoint.entries)
     of_parts = [
         Damage("a bit of a length in a part", flip_entry("c3-1.mtc", truth), "broken"),
         Damage("a line feed behind a part", append("c3-1.mtc", b"\n"), "broken"),
+        Damage("a stray log with an old clock", other_store(1, 100), "not ours"),
     ]
     try_each(of_parts, truth, pruned)
     shutil.rmtree(work / "OUT", ignore_errors=True)

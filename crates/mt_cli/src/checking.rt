@@ -5,12 +5,13 @@ use crate::checked::{Checked, CheckedFile, CheckedLog, CheckedPart};
 use crate::ending::{Again, Ending};
 use crate::fates::PartState;
 use crate::halt::Halt;
+use crate::headless::mark_in;
 use crate::host::{Host, Run};
 use crate::intake::{Intake, LogIntake, unread};
 use crate::progress::{Meter, count_all};
 use crate::request::CheckForm;
 use crate::salvaging::PartPieces;
-use crate::sealed::Sealed;
+use crate::sealed::{Sealed, UNKNOWN_SEGMENT};
 use mt_record::{Head, Rest, encode_head};
 use mt_recover::{
     Failure, LogCheck, Refusal, Window, check_logs, check_parts, fronts_of, hole_before, start_of,
@@ -50,7 +51,7 @@ impl<'a, R: Host> Run<'a, R> {
             self.tell_late(&checked, err)?;
         }
         let caveat = checked.losses().map(Caveat::Losses);
-        let caveat = self.tell_noted(caveat, checked.writers(alloc)?, err)?;
+        let caveat = self.tell_noted_and_said(caveat, checked.writers(alloc)?, err)?;
         if let Some(refusal) = checked.unopened {
             return Err(Halt::from(refusal));
         }
@@ -99,11 +100,20 @@ impl<'a, R: Host> Run<'a, R> {
         let mut logs = Vec::with_capacity(alloc, checks.len())?;
         for ((log, name), check) in self.names.logs.iter().enumerate().zip(checks) {
             let is_unread = matches!(check, Err(Fault::Source { .. }));
-            let is_sealed = self.is_sealed(name.as_str())?;
-            let (end, ending) = match is_sealed {
-                Some(false) => (None, self.ending_of(name.as_str(), &check)?),
-                Some(true) => self.sealed_ending(name.as_str(), &check)?,
-                None => (None, None),
+            let lost = if matches!(check, Err(Fault::Header { .. })) {
+                self.headless(name.as_str())?
+            } else {
+                None
+            };
+            let is_sealed = match lost {
+                Some(_) => Some(true),
+                None => self.is_sealed(name.as_str())?,
+            };
+            let (end, ending) = match (lost, is_sealed) {
+                (Some(ending), _) => (None, Some(ending)),
+                (None, Some(false)) => (None, self.ending_of(name.as_str(), &check)?),
+                (None, Some(true)) => self.sealed_ending(name.as_str(), &check)?,
+                (None, None) => (None, None),
             };
             logs.push(CheckedLog {
                 file: self.checked_file(name.as_str(), is_unread),
@@ -196,6 +206,23 @@ impl<'a, R: Host> Run<'a, R> {
         match PartPieces::open(self.rt.alloc(), bytes)? {
             Some(part) => Ok(part.salvage(self.rt.alloc())?.again()),
             None => Ok(None),
+        }
+    }
+
+    /// Returns what is in a log that has lost its header, if blocks of format 4 are in it. None: none are, or it cannot be read
+    /// again.
+    fn headless(&self, name: &str) -> Result<Option<Ending>, Memory> {
+        let alloc = self.rt.alloc();
+        let Some(bytes) = self.all_again(name)? else {
+            return Ok(None);
+        };
+        if mark_in(&bytes).is_none() {
+            return Ok(None);
+        }
+        match Sealed::with_head(alloc, bytes, UNKNOWN_SEGMENT) {
+            Ok(log) => Ok(Some(log.ending_of_all(alloc)?)),
+            // Out of memory: a segment's header is read.
+            Err(_) => Err(Memory),
         }
     }
 

@@ -2,12 +2,14 @@
 use crate::answering::PRINTED_AT_ONCE;
 use crate::caveat::plural;
 use crate::halt::Halt;
+use crate::headless::mark_in;
 use crate::host::Host;
-use crate::intake::{LogIntake, feed_piece, open, unread};
+use crate::intake::{Intake, LogIntake, feed_piece, open, unread};
 use crate::request::Cut;
 use crate::salvaging::{Placed, Salvage, cut_part};
 use crate::sealed::{Piece, Sealed, TEXT_HEADER, unopened};
 use crate::stop::Stop;
+use mt_block::header_at as sealed_header_at;
 use mt_record::{
     Head, Items, KeptRecords, LogFeed, Segment, encode_head, encode_record, find_items, header_at,
     is_sealed_part, part_header_at,
@@ -19,8 +21,8 @@ use std::io::{self, ErrorKind, Read, Write};
 
 /// Prints a log of complete records of the log, byte for byte, as it reads them, and tells on `err` what it leaves out. If it
 /// is to skip damage, it holds the file, and prints as many records as possible, in order, whose timestamps never fall; of a
-/// part the part of its entries. A log of format 4 it holds as well, and prints its text, a segment. Returns whether it leaves out
-/// more than a crash leaves that was not acknowledged.
+/// part the part of its entries. A log of format 4 it holds as well, and prints its text, a segment. By another header it prints
+/// nothing if no record is there. Returns whether it leaves out more than a crash leaves that was not acknowledged.
 pub fn cut<'a, R: Host, O: Write, E: Write>(
     rt: &R,
     path: &'a str,
@@ -31,13 +33,15 @@ pub fn cut<'a, R: Host, O: Write, E: Write>(
 ) -> Result<bool, Halt<'a>> {
     let mut file = open(rt, path)?;
     let name = is_verbose.then_some(path);
-    if file.is_sealed() {
-        if how.header.is_some() {
-            return Err(has_its_own(rt.alloc()));
-        }
-        let log = Sealed::open(rt.alloc(), file.into_all().map_err(unread)?).map_err(unopened)?;
+    if file.is_sealed() || how.header.is_some() && has_lost_header(&mut file)? {
+        let bytes = file.into_all().map_err(unread)?;
+        let log = match how.header {
+            None => Sealed::open(rt.alloc(), bytes).map_err(unopened)?,
+            Some(head) => open_by(rt.alloc(), bytes, head, err)?,
+        };
         let cutter = Cutter::new(rt.alloc(), log.front.head, how, out)?;
-        return Ok(cutter.cut_sealed(&log, name, err)?.is_lossy);
+        let made = cutter.cut_sealed(&log, name, err)?;
+        return expect_records(rt.alloc(), made, how);
     }
     if how.is_skipping && how.header.is_none() && has_part_header(&file.held) {
         return cut_part(rt.alloc(), file.into_all().map_err(unread)?, how, out, err);
@@ -64,10 +68,42 @@ pub fn cut<'a, R: Host, O: Write, E: Write>(
         let cutter = Cutter::new(rt.alloc(), head, how, out)?;
         cutter.cut(log, name, err)?
     };
-    if made.has_records || how.header.is_none() {
-        return Ok(made.is_lossy);
+    expect_records(rt.alloc(), made, how)
+}
+
+/// Returns whether a file is of format 4, but does not begin as one: its header is lost, and blocks are in it. Reads it to its end if
+/// its header is lost.
+fn has_lost_header<F: Read + Drop>(file: &mut Intake<F>) -> Result<bool, Refusal<'static>> {
+    if header_at(&file.held).is_some() {
+        return Ok(false);
     }
-    Err(has_no_record(rt.alloc(), head.from))
+    file.read(u64::MAX).map_err(unread)?;
+    Ok(mark_in(&file.held).is_some())
+}
+
+/// Opens a log of format 4 by this header, in place of its own one. Tells if that has a lower `from`.
+fn open_by<E: Write>(
+    alloc: Global,
+    bytes: Vec<u8>,
+    head: Head,
+    err: &mut E,
+) -> Result<Sealed, Halt<'static>> {
+    if head.segment.is_none() {
+        return Err(is_segment(alloc));
+    }
+    if let Some((own, _)) = sealed_header_at(&bytes) {
+        tell_lower(own.from, head, err);
+    }
+    Ok(Sealed::with_head(alloc, bytes, head).map_err(unopened)?)
+}
+
+/// Returns whether more is left out than a crash leaves. Refuses a log without a complete record if it gets a header, since that
+/// alone would hold the cutoff at its `from`.
+fn expect_records(alloc: Global, made: Made, how: &Cut) -> Result<bool, Halt<'static>> {
+    match how.header {
+        Some(head) if !made.has_records => Err(has_no_record(alloc, head.from)),
+        _ => Ok(made.is_lossy),
+    }
 }
 
 /// Returns whether a file is a part, as its first bytes say.
@@ -93,17 +129,21 @@ fn pass_header<E: Write>(bytes: &[u8], head: Head, err: &mut E) -> usize {
     let Some((own, rest)) = header_at(bytes) else {
         return 0;
     };
-    if own.from > head.from {
-        let _ = writeln!(
-            err,
-            "mtrecover: its from was {}: updates below that are lost, unless other files have them",
-            own.from
-        );
-    }
+    tell_lower(own.from, head, err);
     bytes.len().saturating_sub(rest.len())
 }
 
-/// Returns that a log without a complete record gets no header, since that alone would hold the cutoff at its `from`.
+/// Tells if the `from` that a log had is lowered by its new header. A write error is passed over.
+fn tell_lower<E: Write>(from: u64, head: Head, err: &mut E) {
+    if from > head.from {
+        let _ = writeln!(
+            err,
+            "mtrecover: its from was {from}: updates below that are lost, unless other files have them"
+        );
+    }
+}
+
+/// Returns that a log without a complete record gets no header.
 fn has_no_record(alloc: Global, from: u64) -> Halt<'static> {
     let name = match format!(in alloc; "a log without a complete record: it would end at {from}") {
         Ok(name) => name,
@@ -114,15 +154,15 @@ fn has_no_record(alloc: Global, from: u64) -> Halt<'static> {
     Halt::stuck(alloc, "cut", name.as_str(), reason, advice)
 }
 
-/// Returns that a file of format 4 takes no other header, since each of its blocks begins with a checksum of its own one.
-fn has_its_own(alloc: Global) -> Halt<'static> {
-    let reason = io::Error::new(ErrorKind::Unsupported, "its blocks go with its own header");
+/// Returns that a log of format 4 takes only the header of a segment, which it is.
+fn is_segment(alloc: Global) -> Halt<'static> {
+    let reason = io::Error::new(ErrorKind::Unsupported, "it is a segment of a worker's log");
     Halt::stuck(
         alloc,
         "cut",
-        "a file of format 4 by another header",
+        "a log of format 4 by the header of none",
         reason,
-        "leave out --header",
+        "say 3:FROM:WORKER:SEGMENT, as check does",
     )
 }
 
@@ -133,6 +173,8 @@ struct Cutter<'x, O> {
     head: Head,
     how: &'x Cut,
     out: &'x mut O,
+    /// The header, until it is printed, if it takes the place of another one. Without records it is not printed.
+    header: Option<Vec<u8>>,
     /// If the log is a segment, or is to end with a mark, it reads what is printed.
     feed: Option<LogFeed<KeptRecords>>,
     /// Whether the last bytes of the log so far are not printed.
@@ -152,7 +194,7 @@ struct Made {
 }
 
 impl<'x, O: Write> Cutter<'x, O> {
-    /// Prints the header of the log.
+    /// Prints the header of the log, unless it takes the place of another one.
     fn new(
         alloc: Global,
         head: Head,
@@ -160,7 +202,9 @@ impl<'x, O: Write> Cutter<'x, O> {
         out: &'x mut O,
     ) -> Result<Cutter<'x, O>, Refusal<'static>> {
         let header = encode_head(alloc, head)?;
-        out.write_all(&header)?;
+        if how.header.is_none() {
+            out.write_all(&header)?;
+        }
         let feed = if head.segment.is_some() || how.end.is_some() {
             let mut feed = LogFeed::keeping(alloc);
             feed_all(&mut feed, &header);
@@ -173,6 +217,7 @@ impl<'x, O: Write> Cutter<'x, O> {
             head,
             how,
             out,
+            header: how.header.is_some().then_some(header),
             feed,
             is_cut: false,
             not_below: 0,
@@ -302,11 +347,8 @@ impl<'x, O: Write> Cutter<'x, O> {
         if let Some(feed) = &mut self.feed {
             let _ = feed.feed(&record);
         }
-        self.made = Made {
-            has_records: true,
-            is_lossy: true,
-        };
-        self.out.write_all(&record)?;
+        self.made.is_lossy = true;
+        self.write_records(&record)?;
         self.out.flush()?;
         // A write error is passed over.
         let _ = writeln!(
@@ -331,8 +373,19 @@ impl<'x, O: Write> Cutter<'x, O> {
             let found = find_items(self.alloc, Items::Records, self.head.format, rest)?;
             self.not_below = self.not_below.saturating_add(found.len());
         }
-        self.made.has_records = self.made.has_records || !kept.is_empty();
-        Ok(self.out.write_all(kept)?)
+        if kept.is_empty() {
+            return Ok(());
+        }
+        self.write_records(kept)
+    }
+
+    /// Prints records, after the header if that is not printed yet.
+    fn write_records(&mut self, records: &[u8]) -> Result<(), Refusal<'static>> {
+        if let Some(header) = self.header.take() {
+            self.out.write_all(&header)?;
+        }
+        self.made.has_records = true;
+        Ok(self.out.write_all(records)?)
     }
 
     /// Returns where the segment ends, if its last bytes are not printed.

@@ -84,7 +84,7 @@ impl Ending {
             zeros: zeros_at_end(rest),
             again,
             hints: Some(Hints::of(feeds, rest, end, again)),
-        })
+        }
     }
 
     /// Returns what follows in a part, whose complete entries end at this byte.

@@ -14,8 +14,8 @@ const NO_LOGS_BESIDE_PARTS: &str =
     "put the logs back; parts of a checkpoint are there: resume --no-logs begins a log above its \
      end, which loses what logs had from its begin on, unless they were deleted because it stands for them";
 
-/// What to try if a log of format 4 has lost its header.
-const PUT_BACK: &str = "put a good copy back: of a file of format 4 cut needs the header";
+/// What to try if a part of format 4 has lost its header.
+const PUT_BACK: &str = "put a good copy back: of a part of format 4 cut needs the header";
 
 /// What the system says if a process has too many open files (`EMFILE`).
 const TOO_MANY_OPEN: i32 = 24;
@@ -44,12 +44,16 @@ pub fn explain<E: Write>(refusal: &Refusal<'_>, names: &Names, err: &mut E) -> i
             if reason.kind() == ErrorKind::IsADirectory =>
             "move the folder away, which has the name of a file",
         (Failure::Recovery(Fault::Header { .. }), Some(reason))
-            if reason.kind() == ErrorKind::InvalidData => PUT_BACK,
-        (Failure::Recovery(Fault::Header { .. }), _)
-            if matches!(file, Some(name) if name.ends_with(".mtc")) => "print a part by records",
+            if reason.kind() == ErrorKind::InvalidData && is_part(file) => PUT_BACK,
+        (Failure::Recovery(Fault::Header { .. }), _) if is_part(file) => "print a part by records",
         (failure, _) => advice(failure),
     };
     writeln!(err, "try: {advice}")
+}
+
+/// Returns whether the name of a file is that of a part.
+fn is_part(file: Option<&str>) -> bool {
+    file.is_some_and(|name| name.ends_with(".mtc"))
 }
 
 impl<'a, R: Host> Run<'a, R> {

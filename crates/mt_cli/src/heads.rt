@@ -8,8 +8,9 @@ use std::alloc::{AllocError, Global};
 const MOST_HEADS: usize = 16;
 
 /// Returns headers that a log may have had, as the other logs show it, at most `MOST_HEADS`. With a header, it is one that
-/// leaves no gap, or that of another worker whose segment before it ends where it begins. Without one, it is a missing
-/// segment directly before or after another one, or the first of another worker; in a folder without segments it is none.
+/// leaves no gap, or that of another worker whose segment before it ends where it begins. Without one, it is the missing
+/// segment that its file's name says, or one directly before or after another one, or the first of another worker; in a
+/// folder without segments it is none.
 /// Err: out of memory.
 pub fn heads_for(
     alloc: Global,
@@ -29,6 +30,12 @@ pub fn heads_for(
             }
         }
     } else {
+        if let Some(segment) = segment_named(log.file.name) {
+            if let Some(segment) = missing(&fronts, segment.worker, Some(segment.number)) {
+                let from = last_before(&fronts, segment).unwrap_or(0);
+                heads.push(head_of(from, Some(segment)))?;
+            }
+        }
         let mut has_segments = false;
         for front in &fronts {
             if let Some(segment) = front.head.segment {
@@ -38,7 +45,13 @@ pub fn heads_for(
         }
         let worker = unused_worker(alloc, &checked.logs)?;
         let first = Segment { worker, number: 0 };
-        heads.push(head_of(0, has_segments.then_some(first)))?;
+        add(
+            head_of(
+                0,
+                (has_segments || log.is_sealed == Some(true)).then_some(first),
+            ),
+            &mut heads,
+        )?;
     }
     heads.truncate(MOST_HEADS);
     Ok(heads)
@@ -99,14 +112,44 @@ fn add_beside(
         number.checked_sub(2),
     ];
     if let Some(next) = missing(fronts, worker, next) {
-        heads.push(head_of(last, Some(next)))?;
+        add(head_of(last, Some(next)), heads)?;
     }
     if let Some(before) = missing(fronts, worker, before) {
         if earlier.is_none() || missing(fronts, worker, earlier).is_some() {
-            heads.push(head_of(0, Some(before)))?;
+            add(head_of(0, Some(before)), heads)?;
         }
     }
     Ok(())
+}
+
+/// Adds a header, unless it is there. Err: out of memory.
+fn add(head: Head, heads: &mut Vec<Head>) -> Result<(), AllocError> {
+    if !heads.contains(&head) {
+        heads.push(head)?;
+    }
+    Ok(())
+}
+
+/// Returns the segment that the name of a file says, as keepers and hosts name it: `WORKER-SEGMENT.mtl`. None: it says none.
+pub fn segment_named(name: &str) -> Option<Segment> {
+    let (worker, number) = name.strip_suffix(".mtl")?.split_once('-')?;
+    Some(Segment {
+        worker: worker.parse::<u32>().ok()?,
+        number: number.parse::<u32>().ok()?,
+    })
+}
+
+/// Returns where the segment directly before this one ends. None: it is not there.
+pub fn last_before(fronts: &[LogFront], segment: Segment) -> Option<u64> {
+    let before = segment.number.checked_sub(1)?;
+    for front in fronts {
+        if let Some(other) = front.head.segment {
+            if other.worker == segment.worker && other.number == before {
+                return Some(front.last());
+            }
+        }
+    }
+    None
 }
 
 /// Returns the segment of this number of a worker, if none of these logs is it.

@@ -52,6 +52,33 @@ impl<'a, R: Host> Run<'a, R> {
         })
     }
 
+    /// Tells likewise and, unless the arguments give the number of writers, that a header of format 4 says more. So it may be after
+    /// a crash too: the header of a log that was being begun counts that log, which may be lost.
+    pub fn tell_noted_and_said<E: Write>(
+        &self,
+        caveat: Option<Caveat>,
+        writers: usize,
+        err: &mut E,
+    ) -> Result<Option<Caveat>, Refusal<'static>> {
+        let caveat = self.tell_noted(caveat, writers, err)?;
+        if self.folder.writers.is_some() {
+            return Ok(caveat);
+        }
+        let said = self.workers_said()?;
+        match said.iter().max() {
+            Some(most) if *most as usize > writers => {
+                let s = plural(writers as u128);
+                // A write error is passed over.
+                let _ = writeln!(
+                    err,
+                    "mtrecover: {writers} writer{s}, but a header says {most}"
+                );
+                Ok(caveat.or(Some(Caveat::No)))
+            }
+            _ => Ok(caveat),
+        }
+    }
+
     /// Tells how many names are ignored that look like those of logs and parts, and the first of them. Returns whether there are
     /// some.
     fn tell_ignored<E: Write>(&self, err: &mut E) -> bool {

@@ -1,5 +1,6 @@
 //! A file of format 4 that is held as a whole: its text, and where each byte of this stands in the file.
-use crate::ending::{Again, Ending};
+use crate::ending::{Again, Ending, WIDEST};
+use crate::headless::{HEADER, mark_in};
 use crate::hints::zeros_at_end;
 use crate::salvaging::Placed;
 use crate::torn::may_begin_record;
@@ -7,18 +8,16 @@ use mt_block::{
     FRAME_BYTES, PartHeader, find_head, has_some_head, header_at, next_block, part_header_at,
 };
 use mt_record::{
-    BlockAt, FOOTER_BYTES, Items, KeptRecords, LogFeed, LogFront, OpenedFile, PartHead, find_items,
-    footer_of, open_file,
+    BlockAt, FOOTER_BYTES, Head, Items, KeptRecords, LogFeed, LogFront, OpenedFile, PartHead, Rest,
+    Segment, encode_head, find_items, footer_of, open_file,
 };
 use mt_recover::{Failure, Refusal};
-use mt_words::{Fault, Format, Memory};
+use mt_words::{Fault, Format, Memory, What};
 use std::alloc::Global;
 use std::io::{self, ErrorKind};
 
-/// The bytes of a part's header, of a log's, and of the header of a log's text.
+/// The bytes of a part's header, and of the header of a log's text.
 pub const PART_HEADER: usize = 36;
-
-const HEADER: usize = 44;
 
 pub const TEXT_HEADER: usize = 20;
 
@@ -37,10 +36,16 @@ pub struct Piece {
 }
 
 impl Piece {
-    /// Reads what stands in the blocks with this mark from this byte of a file on.
-    fn read(alloc: Global, mark: u32, bytes: &[u8], at: usize) -> Result<Piece, Memory> {
+    /// Reads what stands in the blocks with this mark from this byte of a file on. `front` is the text before it.
+    fn read(
+        alloc: Global,
+        mark: u32,
+        bytes: &[u8],
+        at: usize,
+        front: Vec<u8>,
+    ) -> Result<Piece, Memory> {
         let mut piece = Piece {
-            text: Vec::new(alloc),
+            text: front,
             blocks: Vec::new(alloc),
             before: BEFORE_BODY,
             end: at,
@@ -203,6 +208,38 @@ impl Sealed {
         })
     }
 
+    /// Opens the log of these bytes by the header of a segment in place of its own one. If that is lost, the blocks tell the
+    /// mark, and the first ones stand where they do, up to its end. Err: out of memory.
+    pub fn with_head(alloc: Global, bytes: Vec<u8>, head: Head) -> Result<Sealed, Fault> {
+        let (mark, at) = match header_at(&bytes) {
+            Some((header, _)) => (header.mark(), HEADER),
+            // Without a whole block none has any mark.
+            None => match mark_in(&bytes) {
+                Some(mark) => (mark, first_block(mark, &bytes).min(HEADER)),
+                None => (0, HEADER),
+            },
+        };
+        let front = encode_head(alloc, head)?;
+        let first = Piece::read(alloc, mark, &bytes, at.min(bytes.len()), front)?;
+        let mut feed: LogFeed<KeptRecords> = LogFeed::keeping(alloc);
+        // The feed keeps a fault.
+        let _ = feed.feed(&first.text);
+        let front = match feed.front() {
+            Ok(front) => front,
+            Err(fault) => return Err(fault.of_log(0)),
+        };
+        let rest = match front.rest {
+            Rest::Faulty(what) => Rest::Faulty(what),
+            rest => rest_of(mark, bytes.get(first.end..).unwrap_or(&[]), rest),
+        };
+        Ok(Sealed {
+            mark,
+            bytes,
+            front: LogFront { rest, ..front },
+            first,
+        })
+    }
+
     /// Returns the byte of its text where its complete records end.
     pub fn records_end(&self) -> usize {
         self.front.bytes as usize
@@ -253,6 +290,13 @@ impl Sealed {
         Ok(all)
     }
 
+    /// Returns what is in a log that has lost its header: all that its file holds. Err: out of memory.
+    pub fn ending_of_all(&self, alloc: Global) -> Result<Ending, Memory> {
+        let behind = self.behind(alloc)?;
+        let all = self.find(alloc, TEXT_HEADER, &behind)?;
+        Ok(ending_of(&self.bytes, &all))
+    }
+
     /// Returns what follows its records, which were read up to this byte of its text. None: nothing. Err: out of memory.
     pub fn ending(&self, alloc: Global, at: usize) -> Result<Option<Ending>, Memory> {
         let rest = self.bytes_from(self.first.file_at(at));
@@ -260,18 +304,57 @@ impl Sealed {
             return Ok(None);
         }
         let behind = self.behind(alloc)?;
+        let text = self.first.text.get(at..).unwrap_or(&[]);
+        let front = &self.front;
+        if behind.is_empty() && may_begin_record(front.head.format, front.latest, text) {
+            return Ok(Some(ending_of(rest, &[])));
+        }
         let all = self.find(alloc, at, &behind)?;
-        Ok(Some(Ending {
-            bytes: rest.len(),
-            zeros: zeros_at_end(rest),
-            again: all.first().map(|first| Again {
-                at: first.from,
-                records: all.len(),
-            }),
-            hints: None,
-        }))
+        Ok(Some(ending_of(rest, &all)))
     }
 }
+
+/// Returns that these bytes follow, in which these records are.
+fn ending_of(rest: &[u8], all: &[Placed<'_>]) -> Ending {
+    Ending {
+        bytes: rest.len(),
+        zeros: zeros_at_end(rest),
+        again: all.first().map(|first| Again {
+            at: first.from,
+            records: all.len(),
+        }),
+        hints: None,
+    }
+}
+
+/// Returns what follows the records of a log of format 4. Its whole blocks end before these bytes, and its text is this.
+fn rest_of(mark: u32, bytes: &[u8], text: Rest) -> Rest {
+    match next_block(mark, bytes) {
+        Ok(_) if bytes.is_empty() => text,
+        Err(behind) if has_some_head(mark, behind) => Rest::Faulty(What::Checksum),
+        Ok(_) | Err(_) => Rest::Torn,
+    }
+}
+
+/// Returns the byte at which the first whole block with this mark begins, or the number of bytes, if there is none.
+fn first_block(mark: u32, bytes: &[u8]) -> usize {
+    for at in 0..bytes.len() {
+        if let Ok(Some(_)) = next_block(mark, bytes.get(at..).unwrap_or(&[])) {
+            return at;
+        }
+    }
+    bytes.len()
+}
+
+/// The header by which a log of format 4 is read that has lost its own.
+pub const UNKNOWN_SEGMENT: Head = Head {
+    format: WIDEST,
+    from: 0,
+    segment: Some(Segment {
+        worker: 0,
+        number: 0,
+    }),
+};
 
 /// Returns what stands in the whole blocks with this mark from this byte of a file on, wherever they are. Err: out of memory.
 pub fn pieces_from(
@@ -285,7 +368,7 @@ pub fn pieces_from(
     for _ in 0..u64::MAX {
         match next_block(mark, bytes.get(at..).unwrap_or(&[])) {
             Ok(Some(_)) => {
-                let piece = Piece::read(alloc, mark, bytes, at)?;
+                let piece = Piece::read(alloc, mark, bytes, at, Vec::new(alloc))?;
                 at = piece.end;
                 pieces.push(piece)?;
             }
@@ -304,11 +387,6 @@ pub fn pieces_from(
 pub fn text_head(header: PartHeader) -> PartHead {
     let PartHeader {
         number,
-        let text = self.first.text.get(at..).unwrap_or(&[]);
-        let front = &self.front;
-        if behind.is_empty() && may_begin_record(front.head.format, front.latest, text) {
-            return Ok(Some(ending_of(rest, &[])));
-        }
         part,
         parts,
         begin,
@@ -340,7 +418,7 @@ impl SealedPart {
             return Err(Fault::Header { log: 0 });
         };
         let first = bytes.len().saturating_sub(rest.len());
-        let body = match Piece::read(alloc, header.mark(), &bytes, first) {
+        let body = match Piece::read(alloc, header.mark(), &bytes, first, Vec::new(alloc)) {
             Ok(body) => body,
             Err(Memory) => return Err(Fault::Memory),
         };

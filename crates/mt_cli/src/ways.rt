@@ -1,8 +1,9 @@
 //! What recovery would find once damaged logs are cut, a log gets another header, or one that holds the cutoff back ends with a
 //! mark.
-use crate::checked::Checked;
+use crate::checked::{Checked, CheckedLog};
 use crate::cutting::cut;
 use crate::halt::Halt;
+use crate::headless::{head_of, header_of};
 use crate::heads::heads_for;
 use crate::host::{Host, Run};
 use crate::progress::{Meter, Telling};
@@ -89,8 +90,8 @@ impl<'a, R: Host> Run<'a, R> {
         self.write_way(&way, &early, is_json, out)
     }
 
-    /// Prints a line for each header that the log may get which recovery names for its header or for a gap before it. A log
-    /// without a complete record then ends with a mark. A log of format 4 gets no header.
+    /// Prints a line for each header that the log may get which recovery names for its header or for a gap before it: for the one
+    /// that it had, if it is of format 4 and that is known. A log without a complete record then ends with a mark.
     fn write_headers<W: Write>(
         &self,
         checked: &Checked<'_>,
@@ -104,16 +105,37 @@ impl<'a, R: Host> Run<'a, R> {
         let Some(found) = checked.logs.get(log) else {
             return Ok(());
         };
-        if found.is_sealed != Some(false) {
+        if found.is_sealed.is_none() {
             return Ok(());
         }
-        for head in &heads_for(self.rt.alloc(), checked, found)? {
+        for head in &self.heads_of(checked, found)? {
             let end = head.from.saturating_add(1).max(checked.last_below_end());
             let end = (!found.has_records()).then_some(end);
             let way = Way::skipping("header", Some(*head), end);
             self.write_way(&way, &[log], is_json, out)?;
         }
         Ok(())
+    }
+
+    /// Returns the headers that a log may have had: if it is of format 4 and has lost the one that its blocks go with, but this can
+    /// be found, that alone.
+    fn heads_of(
+        &self,
+        checked: &Checked<'_>,
+        log: &CheckedLog<'_>,
+    ) -> Result<Vec<Head>, Refusal<'static>> {
+        let alloc = self.rt.alloc();
+        if log.is_sealed == Some(true) && log.front().is_none() {
+            if let Some(bytes) = self.all_again(log.file.name)? {
+                let fronts = checked.fronts(alloc)?;
+                let workers = self.workers_said()?;
+                let name = log.file.name;
+                if let Some(header) = header_of(alloc, name, &bytes, &fronts, &workers)? {
+                    return Ok(vec![in alloc; head_of(header)]?);
+                }
+            }
+        }
+        Ok(heads_for(alloc, checked, log)?)
     }
 
     /// Prints the line of a way to cut these logs.
