@@ -3,31 +3,29 @@ use crate::caveat::{Caveat, plural};
 use crate::halt::Halt;
 use crate::host::{Host, Run};
 use crate::loss::Loss;
-use crate::saving::{Site, site_of};
+use crate::saving::{Site, no_file, site_of};
 use mt_recover::{Failure, Refusal};
 use mt_text::Shown;
-use mt_words::Memory;
+use mt_words::{Fault, Memory};
 use std::alloc::Global;
+use std::fmt::{self, Display, Formatter};
 use std::fs;
 use std::io::{self, ErrorKind, Write};
-use std::path::Path;
+use std::path::{Path, PathBuf};
 
 /// The name of the file in which losses are noted, a line each.
 pub const NOTES: &str = "LOSS";
 
 impl<'a, R: Host> Run<'a, R> {
-    /// Returns what is noted. None: nothing. Err: the file cannot be read as text.
-    pub fn noted(&self) -> Result<Option<String>, Refusal<'static>> {
+    /// Returns what is noted. None: nothing. Err: the file cannot be read as text, or out of memory.
+    fn noted(&self) -> io::Result<Option<String>> {
         let path = Path::new(self.folder.path).join(self.rt.alloc(), NOTES)?;
-        match fs::read_to_string(self.rt, &path) {
-            Ok(text) => Ok(Some(text)),
-            Err(error) if error.kind() == ErrorKind::NotFound => Ok(None),
-            Err(error) => Err(Refusal::of(Failure::Open(NOTES), error)),
-        }
+        read_notes(self.rt, &path)
     }
 
-    /// Tells what is noted, a line each, that names are ignored, and that there is another number of writers than must be, if
-    /// there is this one. Returns that this is a caveat, unless there is another one. A write error is passed over.
+    /// Tells what is noted, a line each, or that this cannot be read; that names are ignored; and that there is another number of
+    /// writers than must be, if there is this one. Returns that this is a caveat, unless there is another one. A write error is
+    /// passed over.
     pub fn tell_noted<E: Write>(
         &self,
         caveat: Option<Caveat>,
@@ -39,11 +37,27 @@ impl<'a, R: Host> Run<'a, R> {
             let _ = writeln!(err, "mtrecover: {line}");
             is_caveat = true;
         }
-        if let Some(noted) = self.noted()? {
-            for line in noted.lines() {
-                let _ = writeln!(err, "mtrecover: {NOTES}: {}", Shown(line));
+        match self.noted() {
+            Ok(None) => {}
+            Ok(Some(noted)) => {
+                for line in noted.lines() {
+                    let _ = writeln!(err, "mtrecover: {NOTES}: {}", Noted(line));
+                }
+                is_caveat = true;
             }
-            is_caveat = true;
+            Err(error) if error.kind() == ErrorKind::OutOfMemory => {
+                return Err(Refusal::from(Fault::Memory));
+            }
+            Err(error) => {
+                let _ = writeln!(err, "mtrecover: {NOTES} cannot be read");
+                if self.folder.is_verbose {
+                    let _ = writeln!(
+                        err,
+                        "reason: {error}; try: see what it is, and move it away"
+                    );
+                }
+                is_caveat = true;
+            }
         }
         Ok(if is_caveat {
             caveat.or(Some(Caveat::No))
@@ -96,8 +110,10 @@ impl<'a, R: Host> Run<'a, R> {
 
     /// Prints what is noted, and deletes the notes.
     pub fn forget<O: Write>(&self, out: &mut O) -> Result<Option<Caveat>, Halt<'a>> {
-        let Some(noted) = self.noted()? else {
-            return Ok(None);
+        let noted = match self.noted() {
+            Ok(Some(noted)) => noted,
+            Ok(None) => return Ok(None),
+            Err(error) => return Err(Halt::from(Refusal::of(Failure::Open(NOTES), error))),
         };
         let site = Site {
             rt: self.rt,
@@ -105,7 +121,7 @@ impl<'a, R: Host> Run<'a, R> {
             advice: "run it as a user who may write into the folder",
         };
         for line in noted.lines() {
-            writeln!(out, "{}", Shown(line))?;
+            writeln!(out, "{}", Noted(line))?;
         }
         out.flush()?;
         site.delete(NOTES)?;
@@ -119,10 +135,8 @@ impl<R: Host> Site<'_, R> {
     /// owner, the group and the mode of the file `model`, if that is there.
     pub fn note(&self, loss: &Loss, model: &str) -> Result<(), Halt<'static>> {
         let path = self.path(NOTES)?;
-        let mut text = match fs::read_to_string(self.rt, &path) {
-            Err(error) if error.kind() == ErrorKind::NotFound => String::new(self.rt.alloc()),
-            read => self.tell("read", NOTES, read)?,
-        };
+        let read = self.tell("read", NOTES, read_notes(self.rt, &path))?;
+        let mut text = read.unwrap_or(String::new(self.rt.alloc()));
         let before = text.len();
         for line in &loss.0 {
             if !text.lines().any(|noted| noted == line.as_str()) {
@@ -136,6 +150,37 @@ impl<R: Host> Site<'_, R> {
             self.write(NOTES, model, text.as_bytes())?;
         }
         self.sync()
+    }
+}
+
+/// Reads the notes of this path. None: there are none. Err: they are no regular file, which is not opened because a pipe could
+/// have no writer; they are no text or cannot be read; or out of memory.
+fn read_notes<R: Host>(rt: &R, path: &PathBuf) -> io::Result<Option<String>> {
+    match fs::metadata(rt, path) {
+        Ok(file) if !file.is_file() => return Err(no_file()),
+        // What the system does not tell here, it tells when the file is opened.
+        _ => {}
+    }
+    match fs::read_to_string(rt, path) {
+        Ok(text) => Ok(Some(text)),
+        Err(error) if error.kind() == ErrorKind::NotFound => Ok(None),
+        Err(error) => Err(error),
+    }
+}
+
+/// A noted line, in which names were escaped when it was noted: a `\` is printed as it is, and other control characters as their
+/// escapes.
+#[derive(Clone, Copy)]
+struct Noted<'a>(&'a str);
+
+impl<'a> Display for Noted<'a> {
+    fn fmt<W: fmt::Write>(&self, f: &mut Formatter<W>) -> fmt::Result {
+        let mut sign = "";
+        for piece in self.0.split('\\') {
+            write!(f, "{sign}{}", Shown(piece))?;
+            sign = "\\";
+        }
+        Ok(())
     }
 }
 

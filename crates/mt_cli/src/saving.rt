@@ -394,7 +394,7 @@ fn are_one<R: Host>(rt: &R, path: &PathBuf, other: &str) -> bool {
 }
 
 /// Returns that something else than a file is there.
-fn no_file() -> io::Error {
+pub fn no_file() -> io::Error {
     io::Error::new(ErrorKind::Unsupported, "it is no regular file")
 }
 
