@@ -93,14 +93,7 @@ impl<'a, R: Host> Run<'a, R> {
         let mut last = 0;
         for (log, name) in self.names.logs.iter().enumerate() {
             let bytes = site.read(name.as_str())?;
-            let opened = match open_file(self.rt.alloc(), &bytes) {
-                Ok(opened) => opened,
-                Err(fault) => return Err(Halt::from(fault.of_log(log))),
-            };
-            let (head, records) = header_at(text_in(&opened, &bytes)).ok_or(Fault::Header { log })?;
-            let from = if head.from == u64::MAX { 0 } else { head.from };
-            let kept = records_below(head.format, u64::MAX, records);
-            last = last_of(self.rt.alloc(), Head { from, ..head }, &[kept])?.max(last);
+            last = last_before_end(self.rt.alloc(), log, &bytes)?.max(last);
         }
         Ok(last)
     }
@@ -127,12 +120,13 @@ impl<'a, R: Host> Run<'a, R> {
         }
         self.expect_room(self.names.parts.len())?;
         let log = NewLog::above(site, site.salt()?, 0, checkpoint.end, checkpoint.begin)?;
+        let loss = log.loss(self.rt.alloc(), checkpoint.begin)?;
+        loss.tell(err);
         if !how.is_dry {
             for name in &self.names.parts {
                 site.sync_file(name.as_str())?;
             }
             site.sync()?;
-            let loss = log.loss(self.rt.alloc(), checkpoint.begin)?;
             site.note(&loss, model.as_str())?;
             log.write(site, model.as_str())?;
         }
@@ -173,6 +167,19 @@ impl<'a, R: Host> Run<'a, R> {
         let path = self.folder.path;
         Halt::stuck(self.rt.alloc(), "begin a log in", path, reason, advice)
     }
+}
+
+/// Returns the greatest timestamp of the log of this number and these bytes below the one that ends a log. Err: it has no header,
+/// or out of memory.
+pub fn last_before_end(alloc: Global, log: usize, bytes: &[u8]) -> Result<u64, Refusal<'static>> {
+    let opened = match open_file(alloc, bytes) {
+        Ok(opened) => opened,
+        Err(fault) => return Err(Refusal::from(fault.of_log(log))),
+    };
+    let (head, records) = header_at(text_in(&opened, bytes)).ok_or(Fault::Header { log })?;
+    let from = if head.from == u64::MAX { 0 } else { head.from };
+    let kept = records_below(head.format, u64::MAX, records);
+    last_of(alloc, Head { from, ..head }, &[kept])
 }
 
 /// Returns the line of a log: how many updates were dropped, how many bytes it had, and how many it has.

@@ -112,7 +112,7 @@ impl<'a> Chart<'a> {
             })?;
         }
         for number in &numbers_of(alloc, &checked.parts)? {
-            let fate = Fate::of(*number, &checked.parts, &checked.start);
+            let fate = Fate::of(*number, checked);
             rows.push(Row {
                 name: ("checkpoint", Cell::Number(Some(u64::from(*number)))),
                 label: format!(in alloc; "checkpoint {number}")?,

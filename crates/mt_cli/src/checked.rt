@@ -3,6 +3,7 @@ use crate::beginning::version_of;
 use crate::caveat::Losses;
 use crate::ending::{Again, Ending};
 use crate::fates::{Fate, PartState, numbers_of};
+use crate::flaws::Fall;
 use crate::heads::continued;
 use crate::row::{Cell, Field, write_row};
 use crate::sealed::PART_HEADER;
@@ -10,7 +11,7 @@ use mt_record::{Head, LogFront, Rest, Segment};
 use mt_recover::{LogCheck, Refusal, Start};
 use mt_scan::writer_count;
 use mt_text::Shown;
-use mt_words::Fault;
+use mt_words::{Fault, Memory};
 use std::alloc::{AllocError, Global};
 use std::io::{self, Write};
 
@@ -23,6 +24,10 @@ pub struct Checked<'a> {
     pub unopened: Option<Refusal<'a>>,
     /// Where recovery begins, or the fault that it names.
     pub start: Result<Start, Fault>,
+    /// The cutoff. None: recovery names a fault before it compares checkpoints with it.
+    pub cutoff: Option<u64>,
+    /// Where the keys of checkpoints fall.
+    pub falls: Vec<Fall>,
 }
 
 /// A file of a folder.
@@ -59,6 +64,8 @@ pub struct CheckedPart<'a> {
     pub state: PartState,
     /// Where its entries go on after damage, if it is broken and they do, and its file could be read again.
     pub again: Option<Again>,
+    /// The number of entries that its footer has, if it is broken only because they are not as many.
+    pub counted: Option<u32>,
 }
 
 /// The bytes of memory that recovery takes for a byte of ordinary logs and parts, about.
@@ -79,11 +86,7 @@ impl<'a> Checked<'a> {
             write_row(&part.fields(number), is_json, out)?;
         }
         for number in &numbers_of(alloc, &self.parts)? {
-            write_row(
-                &Fate::of(*number, &self.parts, &self.start).fields(),
-                is_json,
-                out,
-            )?;
+            write_row(&Fate::of(*number, self).fields(), is_json, out)?;
         }
         if let Ok(start) = &self.start {
             let row = [
@@ -136,17 +139,9 @@ impl<'a> Checked<'a> {
         true
     }
 
-    /// Returns the numbers of the files that end at the cutoff, as do the logs that they belong to, if updates of others are late
-    /// for that: logs that have not ended go on beyond it. Err: out of memory.
-    pub fn early(&self, alloc: Global) -> Result<Vec<usize>, AllocError> {
+    /// Returns the numbers of the files that end at the cutoff, as do the logs that they belong to. Err: out of memory.
+    pub fn ending_at(&self, alloc: Global, cutoff: u64) -> Result<Vec<usize>, AllocError> {
         let mut early = Vec::new(alloc);
-        let Ok(start) = &self.start else {
-            return Ok(early);
-        };
-        let cutoff = start.window.cutoff;
-        if self.late() == 0 || self.last_below_end() <= cutoff {
-            return Ok(early);
-        }
         for (number, log) in self.logs.iter().enumerate() {
             if self.ends_log(log, cutoff) {
                 early.push(number)?;
@@ -200,15 +195,19 @@ impl<'a> Checked<'a> {
         matches!(self.start, Err(Fault::Torn { log }) if log == number)
     }
 
-    /// Prints what may have happened to each damaged log, and what may close a gap. A write error is passed over.
-    pub fn tell_hints<E: Write>(&self, err: &mut E) {
+    /// Prints what may have happened to each damaged log, why checkpoints are not valid, and what may close a gap. A write error is
+    /// passed over. Err: out of memory.
+    pub fn tell_hints<E: Write>(&self, alloc: Global, err: &mut E) -> Result<(), Memory> {
         for log in &self.logs {
             if let Some(ending) = &log.ending {
                 ending.tell_hints(!log.is_torn(), log.file.name, err);
             }
         }
+        for flaw in &self.flaws(alloc)? {
+            let _ = writeln!(err, "hint: {flaw}");
+        }
         let Err(Fault::Gap { log }) = self.start else {
-            return;
+            return Ok(());
         };
         self.tell_changed(log, err);
         for part in &self.parts {
@@ -220,6 +219,7 @@ impl<'a> Checked<'a> {
                 );
             }
         }
+        Ok(())
     }
 
     /// Prints that the number of the worker of this log looks changed, if the log begins where the segment before it ends of
@@ -317,6 +317,11 @@ impl CheckedLog<'_> {
             Some(front) => front.count > 0,
             None => matches!(&self.ending, Some(ending) if ending.again.is_some()),
         }
+    }
+
+    /// Returns whether it has ended: its last timestamp is the greatest one.
+    pub fn has_ended(&self) -> bool {
+        matches!(self.front(), Some(front) if front.last() == u64::MAX)
     }
 
     /// Returns its header, if it has late updates.

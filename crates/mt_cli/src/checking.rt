@@ -4,6 +4,7 @@ use crate::caveat::Caveat;
 use crate::checked::{Checked, CheckedFile, CheckedLog, CheckedPart};
 use crate::ending::{Again, Ending};
 use crate::fates::PartState;
+use crate::flaws::falls_in;
 use crate::halt::Halt;
 use crate::headless::mark_in;
 use crate::host::{Host, Run};
@@ -16,7 +17,7 @@ use mt_record::{Head, Rest, encode_head};
 use mt_recover::{
     Failure, LogCheck, Refusal, Window, check_logs, check_parts, fronts_of, hole_before, start_of,
 };
-use mt_scan::Slot;
+use mt_scan::{Slot, cutoff};
 use mt_words::{Fault, Memory};
 use std::alloc::Global;
 use std::io::{BufWriter, Read, Write};
@@ -47,7 +48,7 @@ impl<'a, R: Host> Run<'a, R> {
         }
         out.flush()?;
         if self.folder.is_verbose {
-            checked.tell_hints(err);
+            checked.tell_hints(alloc, err)?;
             self.tell_late(&checked, err)?;
         }
         let caveat = checked.losses().map(Caveat::Losses);
@@ -64,13 +65,14 @@ impl<'a, R: Host> Run<'a, R> {
         Ok(Some(Caveat::No))
     }
 
-    /// Checks all logs and parts. If there is a cutoff, the logs are read once more, to count what is late. What follows the
-    /// complete records of a log is read after that.
+    /// Checks all logs and parts. If there is a cutoff, the logs are read once more, to count what is late; the bytes of a pipe are
+    /// held for that. What follows the complete records of a log is read after that.
     pub fn check_all<E: Write + Send>(&self, err: &mut E) -> Result<Checked<'a>, Refusal<'a>> {
         let alloc = self.rt.alloc();
         let mut rack = self.rack()?;
         let meter = self.meter(2, 0, err);
-        let (mut checks, first) = self.check_logs(&[], rack.slots(), u64::MAX, &meter)?;
+        let pipes = self.read_pipes()?;
+        let (mut checks, first) = self.check_logs(&pipes, rack.slots(), u64::MAX, &meter)?;
         let (sources, unopened) = self.open_each(&self.names.parts, &[], rack.slots())?;
         let mut unopened = first.or(unopened);
         let sources = count_all(alloc, sources, &meter)?;
@@ -79,16 +81,29 @@ impl<'a, R: Host> Run<'a, R> {
         for (name, scan) in self.names.parts.iter().zip(&scans) {
             let state = PartState::of(scan);
             let file = self.checked_file(name.as_str(), matches!(state, PartState::Unread));
-            let again = self.again_in(name.as_str(), state)?;
-            parts.push(CheckedPart { file, state, again })?;
+            let (again, counted) = self.reread_part(name.as_str(), state)?;
+            parts.push(CheckedPart {
+                file,
+                state,
+                again,
+                counted,
+            })?;
         }
-        let mut start = fronts_of(alloc, Vec::from_slice(alloc, &checks)?).and_then(
-            |fronts| start_of(alloc, &fronts, scans),
-        );
+        let falls = falls_in(alloc, &scans)?;
+        let fronts = fronts_of(alloc, Vec::from_slice(alloc, &checks)?);
+        let mut start = match &fronts {
+            Ok(fronts) => start_of(alloc, fronts, scans),
+            Err(fault) => Err(*fault),
+        };
+        let cutoff = match (&start, &fronts) {
+            // It chose a checkpoint before it found the gap.
+            (Ok(_) | Err(Fault::Gap { .. }), Ok(fronts)) => cutoff(fronts),
+            _ => None,
+        };
         let mut holes = Vec::new(alloc);
         if let Ok(found) = &start {
             let window = found.window;
-            let again = self.check_logs(&[], rack.slots(), window.cutoff, &meter)?;
+            let again = self.check_logs(&pipes, rack.slots(), window.cutoff, &meter)?;
             checks = again.0;
             unopened = unopened.or(again.1);
             match holes_of(alloc, &checks, window)? {
@@ -130,6 +145,8 @@ impl<'a, R: Host> Run<'a, R> {
             parts,
             unopened,
             start,
+            cutoff,
+            falls,
         })
     }
 
@@ -195,18 +212,24 @@ impl<'a, R: Host> Run<'a, R> {
         }
     }
 
-    /// Returns where the entries of a part go on after damage, if it is broken. None: nowhere, or it cannot be read again.
-    fn again_in(&self, name: &str, state: PartState) -> Result<Option<Again>, Memory> {
+    /// Returns where the entries of a part go on after damage, and the number of entries that its footer has if just that is wrong,
+    /// if it is broken. None: neither is so, or it cannot be read again.
+    fn reread_part(
+        &self,
+        name: &str,
+        state: PartState,
+    ) -> Result<(Option<Again>, Option<u32>), Memory> {
         if !matches!(state, PartState::Broken { .. }) {
-            return Ok(None);
+            return Ok((None, None));
         }
         let Some(bytes) = self.all_again(name)? else {
-            return Ok(None);
+            return Ok((None, None));
         };
-        match PartPieces::open(self.rt.alloc(), bytes)? {
-            Some(part) => Ok(part.salvage(self.rt.alloc())?.again()),
-            None => Ok(None),
-        }
+        let Some(part) = PartPieces::open(self.rt.alloc(), bytes)? else {
+            return Ok((None, None));
+        };
+        let all = part.salvage(self.rt.alloc())?;
+        Ok((all.again(), part.wrong_count(self.rt.alloc())?))
     }
 
     /// Returns what is in a log that has lost its header, if blocks of format 4 are in it. None: none are, or it cannot be read

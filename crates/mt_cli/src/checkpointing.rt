@@ -11,7 +11,7 @@ use crate::loss::{Loss, MOST_LATE_MARKS};
 use crate::noting::NOTES;
 use crate::request::NewFolder;
 use crate::row::{Cell, write_row};
-use crate::saving::{Site, make_folder};
+use crate::saving::{Site, make_folder, no_file};
 use crate::watching::Look;
 use mt_checkpoint::{Checkpoint, PlanFault};
 use mt_recover::{Recovered, Report};
@@ -38,6 +38,7 @@ impl<'a, R: Host> Run<'a, R> {
         let others = self.folder.other_writers(self.rt.alloc(), writers)?;
         let loss = if others.is_some() || may_have_lost(recovered.report()) {
             // Only a check tells which file shows it.
+            self.expect_no_pipe()?;
             let checked = self.check_all(err)?;
             self.loss_of(&checked, new.budget.most_late, others)?
         } else {
@@ -61,6 +62,18 @@ impl<'a, R: Host> Run<'a, R> {
         mem::forget(checkpoint);
         mem::forget(recovered);
         Ok(None)
+    }
+
+    /// Refuses if a log cannot be read once more, because it is a pipe, for example.
+    fn expect_no_pipe(&self) -> Result<(), Halt<'static>> {
+        for name in &self.names.logs {
+            if self.size_of(name.as_str()).is_none() {
+                let advice = "copy it into a file: what is lost is found by a second reading";
+                let name = name.as_str();
+                return Err(Halt::stuck(self.rt.alloc(), "read", name, no_file(), advice));
+            }
+        }
+        Ok(())
     }
 
     /// Writes the parts of the checkpoint into the new folder, which is locked meanwhile, notes the loss there, and then writes

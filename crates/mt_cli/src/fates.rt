@@ -1,5 +1,5 @@
 //! What becomes of parts and checkpoints, and why.
-use crate::checked::CheckedPart;
+use crate::checked::{Checked, CheckedPart};
 use crate::row::{Cell, Field};
 use mt_recover::{PartScan, Start};
 use mt_words::Fault;
@@ -117,11 +117,11 @@ pub struct Fate {
 
 impl Fate {
     /// Returns what becomes of the checkpoint with this number.
-    pub fn of(number: u32, parts: &[CheckedPart<'_>], start: &Result<Start, Fault>) -> Fate {
+    pub fn of(number: u32, checked: &Checked<'_>) -> Fate {
         let mut count: usize = 0;
         let mut wholes: usize = 0;
         let mut first: Option<Part> = None;
-        for part in parts {
+        for part in &checked.parts {
             if part.state.checkpoint() == Some(number) {
                 count = count.saturating_add(1);
             }
@@ -131,7 +131,7 @@ impl Fate {
             }
         }
         let word = match first {
-            Some(first) if wholes == count => word_of(first, count, parts, start),
+            Some(first) if wholes == count => word_of(first, count, checked),
             _ => "broken",
         };
         Fate {
@@ -159,33 +159,29 @@ impl Fate {
 }
 
 /// Returns what becomes of a checkpoint of `count` parts, all of which are complete, in a word.
-fn word_of(
-    first: Part,
-    count: usize,
-    parts: &[CheckedPart<'_>],
-    start: &Result<Start, Fault>,
-) -> &'static str {
+fn word_of(first: Part, count: usize, checked: &Checked<'_>) -> &'static str {
     if usize::from(first.parts) != count || first.begin > first.end {
         return "incomplete";
     }
     for place in 0..first.parts {
-        if count_at(place, first, parts) != 1 {
+        if count_at(place, first, &checked.parts) != 1 {
             return "incomplete";
         }
     }
-    match start {
-        Ok(start) => word_from(first, start),
-        Err(_) => "unjudged",
+    if checked.fall_of(first.checkpoint).is_some() {
+        return "unordered";
+    }
+    match (checked.cutoff, &checked.start) {
+        (Some(cutoff), _) if first.end >= cutoff => "late",
+        (_, Ok(start)) => word_among(first.checkpoint, start),
+        (_, Err(_)) => "unjudged",
     }
 }
 
-/// Returns what becomes of a checkpoint whose parts are complete and go together, in a word.
-fn word_from(first: Part, start: &Start) -> &'static str {
-    let number = first.checkpoint;
+/// Returns what becomes of a valid checkpoint of this number that ends below the cutoff, in a word.
+fn word_among(number: u32, start: &Start) -> &'static str {
     match &start.choice.chosen {
         Some(chosen) if chosen.number == number => "chosen",
-        _ if start.choice.skipped.contains(&number) => "unordered",
-        _ if first.end >= start.window.cutoff => "late",
         _ => "older",
     }
 }

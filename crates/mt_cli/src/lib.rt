@@ -31,6 +31,7 @@ mod ending;
 mod explaining;
 mod fates;
 mod filing;
+mod flaws;
 mod grammar;
 mod halt;
 mod headless;

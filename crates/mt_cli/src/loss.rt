@@ -142,7 +142,7 @@ impl Checked<'_> {
             if chosen.is_some_and(|chosen| *number <= chosen) {
                 continue;
             }
-            let is_unordered = Fate::of(*number, &self.parts, &self.start).word == "unordered";
+            let is_unordered = Fate::of(*number, self).word == "unordered";
             if is_unordered || self.parts.iter().any(|part| part.is_damaged(*number)) {
                 lines.push(format!(in alloc; "checkpoint {number} skipped: it is damaged")?)?;
             }

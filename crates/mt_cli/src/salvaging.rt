@@ -266,6 +266,26 @@ impl PartPieces {
         Ok(all)
     }
 
+    /// Returns the number of entries in its footer, if the part is broken only because it has not as many. Err: out of memory.
+    pub fn wrong_count(&self, alloc: Global) -> Result<Option<u32>, Memory> {
+        let Some(last) = self.pieces.last() else {
+            return Ok(None);
+        };
+        let Some(at) = last.text.len().checked_sub(FOOTER_BYTES) else {
+            return Ok(None);
+        };
+        let found = self.find_before(alloc, at)?;
+        let mut all = Salvage::of(alloc, &found, self.begin)?;
+        all.skip_to(last.file_at(at))?;
+        let Some((_, count)) = footer_of(last.text.get(at..).unwrap_or(&[])) else {
+            return Ok(None);
+        };
+        let is_wrong = all.skipped.is_empty()
+            && last.end() == self.size
+            && found.len() != count as usize;
+        Ok(is_wrong.then_some(count))
+    }
+
     /// Returns where its checkpoint ends, by its footer. None: it has none that can be true.
     fn end(&self) -> Option<u64> {
         self.footer.map(|footer| footer.end)

@@ -1,5 +1,6 @@
 //! What recovery would find once damaged logs are cut, a log gets another header, or one that holds the cutoff back ends with a
 //! mark.
+use crate::beginning::last_before_end;
 use crate::checked::{Checked, CheckedLog};
 use crate::cutting::cut;
 use crate::halt::Halt;
@@ -82,12 +83,31 @@ impl<'a, R: Host> Run<'a, R> {
             }
         }
         self.write_headers(checked, is_json, out)?;
-        let early = checked.early(self.rt.alloc())?;
-        if early.is_empty() {
+        let Ok(start) = &checked.start else {
+            return Ok(());
+        };
+        let end = self.last_of_late(checked)?.max(checked.last_below_end());
+        if checked.late() == 0 || end <= start.window.cutoff {
             return Ok(());
         }
-        let way = Way::skipping("end", None, Some(checked.last_below_end()));
+        let early = checked.ending_at(self.rt.alloc(), start.window.cutoff)?;
+        let way = Way::skipping("end", None, Some(end));
         self.write_way(&way, &early, is_json, out)
+    }
+
+    /// Returns the greatest timestamp before the end of the ended logs that have late updates, or 0. Such a log does not hold the
+    /// cutoff back, but another log that has lost its tail may.
+    fn last_of_late(&self, checked: &Checked<'_>) -> Result<u64, Refusal<'static>> {
+        let mut last = 0;
+        for (number, log) in checked.logs.iter().enumerate() {
+            if !log.has_ended() || log.late_head().is_none() {
+                continue;
+            }
+            if let Some(bytes) = self.all_again(log.file.name)? {
+                last = last_before_end(self.rt.alloc(), number, &bytes)?.max(last);
+            }
+        }
+        Ok(last)
     }
 
     /// Prints a line for each header that the log may get which recovery names for its header or for a gap before it: for the one
