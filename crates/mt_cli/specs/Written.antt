@@ -7,11 +7,11 @@ use Rattle.mt_recover.specs.declared.report.Report.{Report}
 use Rattle.mt_recover.specs.Report.{Outcome}
 
 -- The checkpoint has the pairs of the store that was recovered, in parts within the limit. It begins and ends at the cutoff, and its entries have the
--- greatest version that was found.
+-- greatest version that was found below the cutoff: those of late updates do not count.
 pub record IsCheckpointOf (wanted limit : ℕ) (recovered : Outcome) (checkpoint : Checkpoint) : Type 0 where
   pub number : checkpoint.number ≡ wanted
   pub cutoff : checkpoint.cutoff ≡ recovered.report.cutoff
-  pub version : checkpoint.version ≡ max 1 recovered.report.version
+  pub version : checkpoint.version ≡ max 1 recovered.report.version_below_cutoff
   pub pairs : HasPairs recovered.store checkpoint
   pub within : ArePartsWithin limit checkpoint
 

@@ -119,7 +119,8 @@ fn may_have_lost(report: &Report) -> bool {
     has_late_marks || Losses::of(report).is_some()
 }
 
-/// Plans the checkpoint of what was recovered: at its cutoff, and its entries with the greatest version found.
+/// Plans the checkpoint of what was recovered, at its cutoff. Its entries have the greatest version found below the cutoff.
+/// The versions of late updates do not count: a server may give them to other updates after the restart.
 fn plan_of<'r>(
     alloc: Global,
     new: &NewFolder<'_>,
@@ -133,7 +134,7 @@ fn plan_of<'r>(
         recovered.store().tree(),
         new.number,
         report.cutoff,
-        report.version,
+        report.version_below_cutoff,
         new.limit,
     )
 }
