@@ -309,6 +309,7 @@ IN_BLOCKS = [
     Damage("header of a segment lost", zeros("4-1.mtl", 0, 512), "header", rule=BLOCK),
     Damage("header of a last segment lost", zeros("4-2.mtl", 0, 512), "header", rule=BLOCK),
     Damage("a middle segment gone", gone("4-1.mtl"), "gap"),
+    Damage("a worker's logs gone", gone("2-0.mtl")),
 ]
 
 

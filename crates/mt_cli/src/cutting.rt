@@ -2,7 +2,7 @@
 use crate::answering::PRINTED_AT_ONCE;
 use crate::caveat::plural;
 use crate::halt::Halt;
-use crate::headless::mark_in;
+use crate::headless::{mark_in, with_part_header};
 use crate::host::Host;
 use crate::intake::{Intake, LogIntake, feed_piece, open, unread};
 use crate::request::Cut;
@@ -43,8 +43,12 @@ pub fn cut<'a, R: Host, O: Write, E: Write>(
         let made = cutter.cut_sealed(&log, name, err)?;
         return expect_records(rt.alloc(), made, how);
     }
-    if how.is_skipping && how.header.is_none() && has_part_header(&file.held) {
-        return cut_part(rt.alloc(), file.into_all().map_err(unread)?, how, out, err);
+    if how.is_skipping && how.header.is_none() && header_at(&file.held).is_none() {
+        let bytes = with_part_header(rt.alloc(), file.into_all().map_err(unread)?)?;
+        if has_part_header(&bytes) {
+            return cut_part(rt.alloc(), bytes, how, out, err);
+        }
+        return Err(Halt::from(Fault::Header { log: 0 }));
     }
     let (head, first) = match how.header {
         Some(head) => (head, pass_header(&file.held, head, err)),

@@ -3,18 +3,22 @@
 //!
 //! ```text
 //! log    "MTL4" | salt, 8 bytes | 0, 4 | worker, 4 | 0, 4 | segment, 4 | workers, 4 | from, 8 | mark, 4
+//! part   "MTC4" | salt, 8 bytes | number, 4 | part, 2 | parts, 2 | 1, 4 | begin, 8 | mark, 4
 //! ```
 use crate::heads::{last_before, segment_named};
-use mt_block::{Header, next_block};
+use crate::sealed::PART_HEADER;
+use mt_block::{Header, PartHeader, next_block, part_header_at};
 use mt_record::{Head, LogFront, Segment};
-use mt_words::Format;
+use mt_words::{Format, Memory};
 use std::alloc::{AllocError, Global};
 
 /// The bytes of a log's header.
 pub const HEADER: usize = 44;
 
-/// The bits of the fields of a header, each of which is changed in turn.
+/// The bits of the fields of a log's header, and of a part's, each of which is changed in turn.
 const FIELD_BITS: usize = 320;
+
+const PART_FIELD_BITS: usize = 256;
 
 /// The most numbers of workers of other files that are tried.
 const MOST_WORKERS: usize = 16;
@@ -96,6 +100,50 @@ pub fn head_of(header: Header) -> Head {
     }
 }
 
+/// Returns the bytes of a part of format 4 with the header that it has lost, if it has lost just one bit of that; else the bytes
+/// as they are. Err: out of memory.
+pub fn with_part_header(alloc: Global, bytes: Vec<u8>) -> Result<Vec<u8>, Memory> {
+    if part_header_at(&bytes).is_some() {
+        return Ok(bytes);
+    }
+    let Some(header) = part_header_of(alloc, &bytes)? else {
+        return Ok(bytes);
+    };
+    let mut made = header.bytes(alloc)?;
+    made.extend_from_slice(bytes.get(PART_HEADER..).unwrap_or(&[]))?;
+    Ok(made)
+}
+
+/// Returns the header that a part of format 4 has lost: that whose checksum is the mark of its blocks, and which is what stands
+/// there, with one bit changed at most. None: there is no such header, or no whole block. Err: out of memory.
+fn part_header_of(alloc: Global, bytes: &[u8]) -> Result<Option<PartHeader>, AllocError> {
+    let (Some(front), Some(mark)) = (bytes.get(..PART_HEADER), mark_in(bytes)) else {
+        return Ok(None);
+    };
+    // The last of these bits is one of the mark that stands there, and changes no field.
+    for bit in 0..=PART_FIELD_BITS {
+        let changed = with_bit(alloc, front, bit)?;
+        if let Some(header) = part_fields_in(&changed) {
+            if header.mark() == mark {
+                return Ok(Some(header));
+            }
+        }
+    }
+    Ok(None)
+}
+
+/// Returns the fields of the header of a part that stands at the front, whatever its magic, its one and its mark are. None: it is
+/// shorter.
+fn part_fields_in(bytes: &[u8]) -> Option<PartHeader> {
+    Some(PartHeader {
+        salt: u64_in(bytes, 4)?,
+        number: u32_in(bytes, 12)?,
+        part: u16_in(bytes, 16)?,
+        parts: u16_in(bytes, 18)?,
+        begin: u64_in(bytes, 24)?,
+    })
+}
+
 /// Adds each header that has the fields of this one, or what the file's name and other files say. Err: out of memory.
 fn add_guesses(
     first: Header,
@@ -133,11 +181,17 @@ fn add_guesses(
 /// Returns the fields of the header that stands at the front, with this bit changed, whatever its magic, its zeros and its mark
 /// are. None: it is shorter. Err: out of memory.
 fn fields_but(alloc: Global, bytes: &[u8], bit: usize) -> Result<Option<Header>, AllocError> {
+    let changed = with_bit(alloc, bytes, bit)?;
+    Ok(fields_in(&changed))
+}
+
+/// Returns these bytes with this bit changed, if there is one. Err: out of memory.
+fn with_bit(alloc: Global, bytes: &[u8], bit: usize) -> Result<Vec<u8>, AllocError> {
     let mut changed = Vec::from_slice(alloc, bytes)?;
     if let Some(byte) = changed.get_mut(bit / 8) {
         *byte ^= 1 << (bit % 8);
     }
-    Ok(fields_in(&changed))
+    Ok(changed)
 }
 
 /// Returns the fields of the header that stands at the front, whatever its magic, its zeros and its mark are. None: it is
@@ -156,6 +210,12 @@ fn fields_in(bytes: &[u8]) -> Option<Header> {
 fn own_mark(bytes: &[u8]) -> Option<u32> {
     let (mark, _) = bytes.get(HEADER - 4..)?.split_first_chunk::<4>()?;
     Some(u32::from_le_bytes(*mark))
+}
+
+/// Returns the number of two bytes that begins at this byte. None: there are fewer.
+fn u16_in(bytes: &[u8], at: usize) -> Option<u16> {
+    let (number, _) = bytes.get(at..)?.split_first_chunk::<2>()?;
+    Some(u16::from_be_bytes(*number))
 }
 
 /// Returns the number of four bytes that begins at this byte. None: there are fewer.
