@@ -64,16 +64,15 @@ impl<'a, R: Host> Run<'a, R> {
         Ok(None)
     }
 
-    /// Refuses if a log cannot be read once more, because it is a pipe, for example.
+    /// Refuses if a log or a part cannot be read twice.
     fn expect_no_pipe(&self) -> Result<(), Halt<'static>> {
-        for name in &self.names.logs {
-            if self.size_of(name.as_str()).is_none() {
+        match self.first_pipe() {
+            Some(name) => {
                 let advice = "copy it into a file: what is lost is found by a second reading";
-                let name = name.as_str();
-                return Err(Halt::stuck(self.rt.alloc(), "read", name, no_file(), advice));
+                Err(Halt::stuck(self.rt.alloc(), "read", name, no_file(), advice))
             }
+            None => Ok(()),
         }
-        Ok(())
     }
 
     /// Writes the parts of the checkpoint into the new folder, which is locked meanwhile, notes the loss there, and then writes

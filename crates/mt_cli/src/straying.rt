@@ -12,7 +12,7 @@ use std::io::{self, Write};
 
 impl<'a, R: Host> Run<'a, R> {
     /// Prints which log keeps a checkpoint from being chosen, if a command stopped at a gap and there is one. Reads the files again.
-    /// If that fails, nothing is printed. A write error is passed over.
+    /// If that fails, or one of them cannot be read twice, nothing is printed. A write error is passed over.
     pub fn tell_stray<E: Write>(&self, halt: &Halt<'_>, err: &mut E) {
         match halt {
             Halt::Refused(
@@ -22,6 +22,10 @@ impl<'a, R: Host> Run<'a, R> {
                 },
             ) => {}
             _ => return,
+        }
+        if self.first_pipe().is_some() {
+            // A pipe is not read twice.
+            return;
         }
         if let Ok(Some((name, checkpoint))) = self.stray() {
             let _ = writeln!(
