@@ -199,10 +199,12 @@ def as_text(files):
 
 
 def other_store(updates, last):
-    """A log of another store, whose clock ends here."""
-    step = last // updates
-    records = [record(Update(step * n, n, PUT, b"other%06d" % n, ((0, b"other"),))) for n in range(1, updates + 1)]
-    content = header(1, 0) + b"".join([*records, mark(last)])
+    """A log of another store, whose clock ends here, with a mark after each commit."""
+    step, content = last // updates, header(1, 0)
+    for n in range(1, updates + 1):
+        content += record(Update(step * n, n, PUT, b"other%06d" % n, ((0, b"other"),)))
+        content += mark(step * n) if n % COMMIT == 0 else b""
+    content += mark(last)
     return lambda files: files.update({"w9-0.mtl": content})
 
 
@@ -514,7 +516,7 @@ def in_haste(damage, truth, files, work):
     """Resumes at once. What that loses must be told before or after it."""
     folder = lay(work / "HASTE", {name: content for name, content in files.items() if content is not None})
     status = resume(folder)
-    count(f"{damage.title}: refused in haste", status == 5 or "late" not in damage.ways)
+    count(f"{damage.title}: refused in haste", status != 0 or "late" not in damage.ways)
     if status == 0:
         is_told = run("report", folder, "--strict")[0]
         count(f"{damage.title}: in haste", is_told or not truth.lost(dump(folder)[1]) or damage.unseen)
