@@ -761,7 +761,10 @@ static bool has_line(const char *text, const char *line) {
 /* Writes the file of losses: the text that it had, and each of these lines that it had not. */
 static bool note(const mtr_host *host, mode_t mode, const char *had, const char *lines) {
     int file = create(host, NOTES);
-    bool is_written = file >= 0 && fchmod(file, mode) == 0 && write_all(file, (const uint8_t *)had, strlen(had));
+    size_t length = strlen(had);
+    bool is_written = file >= 0 && fchmod(file, mode) == 0 && write_all(file, (const uint8_t *)had, length);
+    if (is_written && length > 0 && had[length - 1] != '\n')
+        is_written = write_all(file, (const uint8_t *)"\n", 1);
     for (; is_written && *lines != 0; lines = next_line(lines))
         if (!has_line(had, lines))
             is_written = write_all(file, (const uint8_t *)lines, (size_t)(next_line(lines) - lines));

@@ -207,6 +207,9 @@ impl Folder {
             Err(error) if error.kind() == io::ErrorKind::NotFound => Vec::new(),
             read => read.of(NOTES)?,
         };
+        if text.last().is_some_and(|&byte| byte != b'\n') {
+            text.push(b'\n');
+        }
         for line in lines {
             if !text.split(|&byte| byte == b'\n').any(|noted| noted == line.as_bytes()) {
                 text.extend_from_slice(line.as_bytes());
@@ -459,7 +462,8 @@ impl Losses<'_> {
         for (n, (log, ending)) in old.iter().zip(&endings).enumerate() {
             let name = name_of_log(log.segment);
             let Segment { worker, number } = log.segment;
-            let before = n.checked_sub(1).filter(|&n| (old[n].segment.worker, old[n].segment.number + 1) == (worker, number));
+            let is_before = |other: Segment| other.worker == worker && other.number.checked_add(1) == Some(number);
+            let before = n.checked_sub(1).filter(|&n| is_before(old[n].segment));
             let (from, last) = (ending.from, before.map_or(u64::MAX, |n| endings[n].last));
             if from > report.begin && last < from && last < report.cutoff {
                 lines.push(format!("{name}: a hole from {last} to {from} is before it"));

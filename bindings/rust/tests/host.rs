@@ -176,7 +176,8 @@ fn a_checkpoint_that_fails_is_given_up() {
 #[test]
 fn a_checkpoint_whose_keys_do_not_rise_is_given_up() {
     for keys in [[b"b", b"a"], [b"a", b"a"]] {
-        let entries = move |part: &mut Part| keys.iter().try_for_each(|&key| part.entry(1, key, &[Column::new(0, b"v")]));
+        let entry = |part: &mut Part, key: &[u8]| part.entry(1, key, &[Column::new(0, b"v")]);
+        let entries = move |part: &mut Part| keys.iter().try_for_each(|&key| entry(part, key));
         assert!(parts_of("falling", entries).is_empty());
     }
 }
@@ -212,7 +213,7 @@ fn an_older_copy_of_a_log_is_refused() {
 #[test]
 fn a_loss_that_is_accepted_is_noted_once() {
     let folder = older_copy("accepted");
-    fs::write(folder.0.join("LOSS"), "an older one\n").unwrap();
+    fs::write(folder.0.join("LOSS"), "an older one").unwrap();
     host::open(Settings { accept_loss: true, ..folder.settings() }).unwrap();
     assert_eq!(fs::read_to_string(folder.0.join("LOSS")).unwrap(), format!("an older one\n{LOST}\n"));
     assert_eq!(folder.open().1.unwrap().report().late, 0);
