@@ -350,9 +350,10 @@ uint32_t mtr_keeper_failed(mtr_place *keeper);
 uint32_t mtr_keeper_acknowledged(mtr_place *keeper, uint64_t *below);
 
 /* Begins a checkpoint. *number is that of its parts, and *begin its begin: both stand in their headers. Then read each key
- * in one step, between its updates: the version of its entry is the stamp of its last update. Keys rise, strictly, in the
- * order of their bytes, within each part and from one part to the next: a checkpoint whose keys do not rise is not valid.
- * EARLY: one is being made. FULL: no stamp or number is left. */
+ * in one step, between its updates: the version of its entry is the stamp of its last update. If the key was not updated
+ * since mtr_keeper_resume, it is one below the cutoff of the report. Keys rise, strictly, in the order of their bytes, within
+ * each part and from one part to the next: a checkpoint whose keys do not rise is not valid. EARLY: one is being made. FULL:
+ * no stamp or number is left. */
 uint32_t mtr_checkpoint_begin(mtr_place *keeper, uint32_t *number, uint64_t *begin);
 
 /* Notes that all keys are read. *end stands in the footers. Then sync the parts, rename them, and sync the folder.
@@ -374,7 +375,9 @@ uint32_t mtr_log_deleted(mtr_place *keeper, size_t log);
 /* Puts a keeper that goes on from this store into the empty place. It takes its logs, and no other call. All files
  * are a keeper's. First sync them and the folder, and delete the parts of all checkpoints but the report's: a later
  * recovery could choose another. `number` is the greatest number of a part that the folder had, or 0. `salt` is as for
- * mtr_keeper_begin: no salt of a file that mtr_resume_log gave. WRONG: `keeper` is not empty, or `store` holds no store. */
+ * mtr_keeper_begin: no salt of a file that mtr_resume_log gave. Stamps go on from the report's cutoff, and above its version.
+ * WRONG: `keeper` is not empty; or `store` holds no store; or the report's checkpoint, or a skipped one, has a greater
+ * number. */
 uint32_t mtr_keeper_resume(mtr_place *keeper, mtr_place *store, uint32_t number, uint64_t salt);
 
 /* Adds a log that the last server left: the bytes that mtr_resume_log gave, once they are the file's. DONE: *number is its
@@ -383,7 +386,7 @@ uint32_t mtr_keeper_resume(mtr_place *keeper, mtr_place *store, uint32_t number,
 uint32_t mtr_keeper_add(mtr_place *keeper, const uint8_t *log, size_t length, size_t *number);
 
 /* Notes that all logs are added, and that all files and the folder are synced. From then on the newest segment of each
- * worker is written. */
+ * worker is written. EARLY: not as many logs were added as recovery had. Then the place is as before. */
 uint32_t mtr_keeper_resumed(mtr_place *keeper);
 
 /* Logs that threads append to at once, without a lock. A keeper lends its logs to a crew, which hands each of them to one

@@ -787,7 +787,8 @@ static void test_keeper(void) {
     expect("a second log", mtr_log_begin(&keeper, &log) == MTR_DONE && log == 1 && put_stamp(&keeper, 0) == 4);
     sync_log(&keeper, 0);
     expect("it holds back", mtr_keeper_acknowledged(&keeper, &below) == MTR_DONE && below == 4);
-    expect("a failure", mtr_keeper_failed(&keeper) == MTR_DONE && mtr_log_mark(&keeper, 0) == MTR_FAILED);
+    expect("a failure", mtr_keeper_failed(&keeper) == MTR_DONE && mtr_log_mark(&keeper, 0) == MTR_FAILED &&
+                            mtr_checkpoint_abandon(&keeper) == MTR_FAILED);
     mtr_free(&keeper);
     expect("it is freed", blocks == 0);
 }
@@ -901,6 +902,53 @@ static void test_restart(uint32_t format) {
     expect("it is written", mtr_keeper_resumed(&keeper) == MTR_DONE && mtr_keeper_resumed(&keeper) == MTR_WRONG);
     expect("a stamp from the cutoff on", put_stamp(&keeper, 0) == 3);
     expect("the next checkpoint", mtr_checkpoint_begin(&keeper, &checkpoint, &begin) == MTR_DONE && checkpoint == 5);
+    mtr_free(&keeper);
+    mtr_free(&store);
+    expect("all is freed", blocks == 0);
+}
+
+/* A keeper does not go on with the number of a checkpoint that recovery knew, or without a log that recovery had. */
+static void test_restart_lacks(void) {
+    mtr_place keeper = {0}, store = example_store();
+    expect("less than the chosen checkpoint's", mtr_keeper_resume(&keeper, &store, 6, 9) == MTR_WRONG && !keeper.full);
+    expect("less than a skipped checkpoint's", mtr_keeper_resume(&keeper, &store, 7, 9) == MTR_WRONG && !keeper.full);
+    expect("a number", mtr_keeper_resume(&keeper, &store, 8, 9) == MTR_DONE);
+    expect("its logs are not there", mtr_keeper_resumed(&keeper) == MTR_EARLY && mtr_keeper_resumed(&keeper) == MTR_EARLY);
+    mtr_free(&keeper);
+    mtr_free(&store);
+    expect("all is freed", blocks == 0);
+}
+
+/* Adds what replaces this log at cutoff 3 to the keeper. */
+static uint32_t add_resumed(mtr_place *keeper, const uint8_t *log, size_t size, size_t *number) {
+    mtr_resumed resumed;
+    uint8_t out[64];
+    size_t count = 0;
+    uint32_t status = mtr_resume_log(log, size, 3, 8, &resumed, out, sizeof out, &count);
+    return status == MTR_DONE ? mtr_keeper_add(keeper, out, count, number) : status;
+}
+
+/* Two logs, of which the second has an update past the cutoff, 3: both are added, and stamps are above its version, 20. */
+static void test_restart_late(void) {
+    mtr_place keeper = {0}, store = {0};
+    mtr_column column = {0, {text("x"), 1}};
+    mtr_fault fault = {0};
+    size_t count = 0, first, number = 9;
+    length = 0;
+    append(mtr_segment_header(0, 0, 0, rest(), room(), &count), &count, 20);
+    append(mtr_mark(3, rest(), room(), &count), &count, 17);
+    first = length;
+    append(mtr_segment_header(0, 1, 0, rest(), room(), &count), &count, 20);
+    append(mtr_put(3, 20, 20, text("a"), 1, &column, 1, rest(), room(), &count), &count, 33);
+    expect("a store", add_bytes(&store, 0, file, first, 64) == MTR_DONE &&
+                          add_bytes(&store, 0, file + first, length - first, 64) == MTR_DONE &&
+                          mtr_recover(&store, &fault) == MTR_DONE);
+    expect("it goes on", mtr_keeper_resume(&keeper, &store, 0, 9) == MTR_DONE);
+    expect("one log", add_resumed(&keeper, file, first, &number) == MTR_DONE && number == 0);
+    expect("the other is not there", mtr_keeper_resumed(&keeper) == MTR_EARLY && mtr_log_mark(&keeper, 0) == MTR_WRONG);
+    expect("the other", add_resumed(&keeper, file + first, length - first, &number) == MTR_DONE && number == 1);
+    expect("both are there", mtr_keeper_resumed(&keeper) == MTR_DONE);
+    expect("a stamp above the version", put_stamp(&keeper, 0) == 21);
     mtr_free(&keeper);
     mtr_free(&store);
     expect("all is freed", blocks == 0);
@@ -1100,6 +1148,8 @@ int main(int argc, char **argv) {
     test_segments();
     test_restart(3);
     test_restart(4);
+    test_restart_lacks();
+    test_restart_late();
     test_words();
     test_faults();
     test_add_memory();

@@ -138,7 +138,7 @@ pub struct Resuming {
 pub enum KeeperError {
     /// There is not enough memory.
     OutOfMemory,
-    /// No log of format 2 has the record; the log is another keeper's; or it does not go on.
+    /// No log of format 2 has the record; the log is another keeper's, or does not go on; or a checkpoint has a greater number.
     NotLawful,
     /// What the call waits for did not happen yet.
     Early,
@@ -197,11 +197,12 @@ impl Keeper {
 
     /// Goes on from this store. All files are a keeper's. First sync them and the folder, and delete the parts of all
     /// checkpoints but the report's: a later recovery could choose another. `number` is the greatest number of a part that the
-    /// folder had, or 0. `salt` is as for [`Keeper::begin`]: no salt of a log that was resumed.
-    pub fn resume(store: &Store, number: u32, salt: u64) -> Result<Resuming, OutOfMemory> {
+    /// folder had, or 0. `salt` is as for [`Keeper::begin`]: no salt of a log that was resumed. Stamps go on from the report's
+    /// cutoff, and above its version. `NotLawful`: the report's checkpoint, or a skipped one, has a greater number.
+    pub fn resume(store: &Store, number: u32, salt: u64) -> Result<Resuming, KeeperError> {
         let place = Place::empty();
         // SAFETY: one place is empty, and the other holds a store.
-        done(unsafe { c::mtr_keeper_resume(place.raw(), store.0.raw(), number, salt) })?;
+        answered(unsafe { c::mtr_keeper_resume(place.raw(), store.0.raw(), number, salt) })?;
         Ok(Resuming { place, logs: Vec::new() })
     }
 
@@ -346,8 +347,9 @@ impl Keeper {
     }
 
     /// Begins a checkpoint. Then read each key in one step, between its updates: the version of its entry is the stamp of its
-    /// last update. Keys rise, strictly, in the order of their bytes, within each part and from one part to the next: a
-    /// checkpoint whose keys do not rise is not valid. `Early`: one is being made.
+    /// last update. If the key was not updated since [`Keeper::resume`], it is one below the `cutoff` of the report. Keys rise,
+    /// strictly, in the order of their bytes, within each part and from one part to the next: a checkpoint whose keys do not
+    /// rise is not valid. `Early`: one is being made.
     pub fn begin_checkpoint(&mut self) -> Result<Checkpoint, KeeperError> {
         let mut made = Checkpoint { number: 0, begin: 0 };
         // SAFETY: the place holds a keeper.
@@ -564,7 +566,8 @@ impl Resuming {
     }
 
     /// Notes that all logs are added, and that all files and the folder are synced. Returns those that take records, in the
-    /// order in which they were added: all but segments that a later one follows.
+    /// order in which they were added: all but segments that a later one follows. `Early`: not as many logs were added as
+    /// recovery had.
     pub fn finish(self) -> Result<(Keeper, Vec<Log>), KeeperError> {
         // SAFETY: the place holds a keeper.
         answered(unsafe { c::mtr_keeper_resumed(self.place.raw()) })?;

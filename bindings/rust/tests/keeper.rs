@@ -1,7 +1,8 @@
 //! The keeper of logs: what its types let a server do. What its calls answer is proved, and `library/test.c` shows it.
 
-use mtrecover::keeper::{Buffer, Keeper, KeeperError, Log, NewLog, Segment, Worker};
-use mtrecover::records::{self, Column};
+use mtrecover::keeper::{Buffer, Keeper, KeeperError, Log, NewLog, Resuming, Segment, Worker};
+use mtrecover::records::{self, Column, Format};
+use mtrecover::Store;
 
 /// A keeper whose first log may be written, and the bytes of its file.
 fn keeper() -> (Keeper, Log, Vec<u8>) {
@@ -195,6 +196,7 @@ fn a_failed_keeper_takes_nothing() {
     keeper.failed();
     assert_eq!(keeper.remove(&log, b"a"), Err(KeeperError::Failed));
     assert_eq!(keeper.begin_log().err(), Some(KeeperError::Failed));
+    assert_eq!(keeper.abandon_checkpoint(), Err(KeeperError::Failed));
 }
 
 #[test]
@@ -219,4 +221,48 @@ fn a_keeper_goes_on_after_a_crash() {
     sync(&mut keeper, &logs[0], &mut resumed);
     let store = mtrecover::recover(&[&first, &resumed], &[]).unwrap();
     assert!(store.contains_key(b"a") && store.contains_key(b"b"));
+}
+
+/// Goes on from this store with these logs, and adds what replaces each.
+fn resume_with(store: &Store, logs: &[&[u8]]) -> Resuming {
+    let mut resuming = Keeper::resume(store, 0, 9).unwrap();
+    for (log, salt) in logs.iter().zip(8..) {
+        let mut resumed = Vec::new();
+        records::resume_log(&mut resumed, log, store.report().cutoff, salt).unwrap();
+        resuming.add(&resumed).unwrap();
+    }
+    resuming
+}
+
+#[test]
+fn a_keeper_does_not_go_on_without_a_log() {
+    let (mut keeper, _log, first) = keeper();
+    let second = keeper.begin_log().unwrap().bytes().to_vec();
+    let store = mtrecover::recover(&[&first, &second], &[]).unwrap();
+    assert_eq!(resume_with(&store, &[&first]).finish().err(), Some(KeeperError::Early));
+    assert!(resume_with(&store, &[&second, &first]).finish().is_ok());
+}
+
+#[test]
+fn stamps_are_above_the_version_of_a_late_update() {
+    let (mut one, mut other) = (Vec::new(), Vec::new());
+    records::segment_header(&mut one, 0, 0, 0).unwrap();
+    records::mark(&mut one, 3).unwrap();
+    records::segment_header(&mut other, 0, 1, 0).unwrap();
+    records::put(&mut other, Format::Two, 20, 20, b"a", &[Column::new(0, b"v")]).unwrap();
+    let store = mtrecover::recover(&[&one, &other], &[]).unwrap();
+    let (mut keeper, logs) = resume_with(&store, &[&one, &other]).finish().unwrap();
+    assert_eq!(put(&mut keeper, &logs[0], "a"), 21);
+}
+
+#[test]
+fn the_number_of_each_known_checkpoint_is_no_greater() {
+    let (_keeper, _log, log) = keeper();
+    let mut part = Vec::new();
+    records::part_header(&mut part, Format::Two, 5, 0, 0, 1).unwrap();
+    records::part_footer(&mut part, 0, 0).unwrap();
+    let store = mtrecover::recover(&[&log], &[&part]).unwrap();
+    assert_eq!(store.report().checkpoint, Some(5));
+    assert_eq!(Keeper::resume(&store, 4, 9).err(), Some(KeeperError::NotLawful));
+    assert!(Keeper::resume(&store, 5, 9).is_ok());
 }

@@ -1,5 +1,6 @@
 -- The keeper that a place holds, and what a call makes of it.
-use Rattle.std.specs.Prelude.{◌≡◌, ℕ, Option, Some, None, List, [], ◌∷◌, length}
+use Rattle.std.specs.Prelude.{◌≡◌, ◌≤◌, ℕ, Option, Some, None, IfSome, All, List, [], ◌∷◌, length}
+use Rattle.std.specs.Arc.{arc_value}
 use Rattle.std_alloc.specs.Vec.{vec_ptr}
 use Rattle.mt_writer.specs.declared.writer_fault.WriterFault.{WriterFault}
 use Rattle.mt_writer.specs.declared.writer_fault.WriterFault.TheVariants as writer_faults
@@ -9,6 +10,9 @@ use Rattle.mt_keeper.specs.declared.keeper_fault.KeeperFault.{KeeperFault}
 use Rattle.mt_keeper.specs.declared.keeper_fault.KeeperFault.TheVariants as faults
 use Rattle.mt_keeper.specs.Keeping.{Keeping, Holds}
 use Rattle.mt_keeper.specs.Calling.{Steps}
+use Rattle.mt_keeper.specs.declared.resuming.Found.{Found}
+use Rattle.mt_keeper.specs.Restarting.{Resuming}
+use Rattle.mt_recover.specs.declared.report.Report.{Report}
 use Rattle.mt_keeper.specs.Refusals.{IsAt}
 use Rattle.mt_writer.specs.Journals.{NewFile}
 use Rattle.mt_keeper.specs.Crews.{CrewView, Deed}
@@ -47,8 +51,22 @@ abbrev pub HoldsFirst : NewFile → Option Held → Type 0
 HoldsFirst new (Some (held.First first)) = first.new ≡ new
 HoldsFirst new place = ⊥
 
+-- what a restart takes of a report
+abbrev pub found_in : Report → Found
+found_in report = record { logs = report.logs; cutoff = report.cutoff; version = report.version; begin = report.begin }
+
+-- no checkpoint that recovery chose or skipped has a greater number
+pub record IsGreatestNumber (number : ℕ) (report : Report) : Type 0 where
+  pub chosen : IfSome report.checkpoint (λ chosen. chosen ≤ number)
+  pub skipped : All (λ skipped. skipped ≤ number) report.skipped.items
+
+-- the place holds a store with a report for which P is true
+abbrev pub HoldsReport : (Report → Type 0) → Option Held → Type 0
+HoldsReport P (Some (held.Store shared)) = P (arc_value shared).report
+HoldsReport P place = ⊥
+
 -- the place holds the logs of a keeper that goes on, for which P is true
-abbrev pub HoldsRestart : (Keeping → Type 0) → Option Held → Type 0
+abbrev pub HoldsRestart : (Resuming → Type 0) → Option Held → Type 0
 HoldsRestart P (Some (held.Restart restart)) = P restart
 HoldsRestart P place = ⊥
 
@@ -82,7 +100,7 @@ abbrev pub IsRefusal : (Keeping → KeeperFault → Type 0) → Option Held → 
 IsRefusal Refuses (Some (held.Keeper keeper)) status = (fault : KeeperFault) × Refuses keeper fault × (status ≡ fault_status fault)
 IsRefusal Refuses place status = status ≡ WRONG
 
-abbrev pub IsRestartRefusal : (Keeping → KeeperFault → Type 0) → Option Held → ℕ → Type 0
+abbrev pub IsRestartRefusal : (Resuming → KeeperFault → Type 0) → Option Held → ℕ → Type 0
 IsRestartRefusal Refuses (Some (held.Restart restart)) status = (fault : KeeperFault) × Refuses restart fault × (status ≡ fault_status fault)
 IsRestartRefusal Refuses place status = status ≡ WRONG
 

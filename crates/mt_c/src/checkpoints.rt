@@ -1,5 +1,5 @@
 //! Checkpoints that a keeper makes, one at a time.
-ghost use Rattle.std.specs.Prelude.{◌≡◌, ◌≢◌, ◌⊎◌, ◌+◌, ◌∷◌, [], ℕ, None, Contains};
+ghost use Rattle.std.specs.Prelude.{◌≡◌, ◌≢◌, ◌⊎◌, ◌+◌, ℕ, true, None, Contains};
 ghost use Rattle.mt_scan.specs.Choice.{CheckpointReading};
 ghost use Rattle.mt_laws.specs.Writing.{Server, IsRead, updates_of};
 ghost use Rattle.mt_keeper.specs.Keeping.{IsReading, HasRead};
@@ -8,7 +8,7 @@ ghost use Rattle.mt_keeper.specs.Refusals.{HasFailed, HasNoStamp, IsMaking, HasN
 ghost use Rattle.mt_c.specs.Holding.{Holds};
 ghost use Rattle.mt_c.specs.Keepers.{keeper_answers, HoldsKeeper, HoldsServer, HoldsAfter, IsKeeper, IsRefusal};
 ghost use Rattle.mt_c.specs.Statuses.{IsOneOf, IsRefusedUnless};
-ghost use Rattle.mt_c.specs.declared.status.TheConstants.{DONE, WRONG};
+ghost use Rattle.mt_c.specs.declared.status.TheConstants.{DONE, WRONG, FAILED};
 
 use crate::held::Held;
 use crate::place::Place;
@@ -103,7 +103,9 @@ pub extern "C" fn mtr_checkpoint_abandon(keeper: &mut Place) -> u32
     ensures done { result ≡ DONE → HoldsKeeper (λ k. k.making ≡ None) keeper.new.handle.value }
     ensures same { (s : Server) → HoldsServer s keeper.old.handle.value → HoldsServer s keeper.new.handle.value }
     ensures kept { result ≢ DONE → keeper.new.handle.value ≡ keeper.old.handle.value }
-    ensures certain { IsOneOf (DONE ∷ WRONG ∷ []) result }
+    ensures why { result ≢ DONE → IsRefusal HasFailed keeper.old.handle.value result }
+    ensures failed { HoldsKeeper (λ k. k.failed ≡ true) keeper.old.handle.value → result ≡ FAILED }
+    ensures certain { IsOneOf keeper_answers result }
     ensures refused { IsRefusedUnless (Holds IsKeeper keeper.old.handle.value) result }
 {
     let Some(held) = keeper.held_mut() else {
@@ -112,6 +114,8 @@ pub extern "C" fn mtr_checkpoint_abandon(keeper: &mut Place) -> u32
     let Held::Keeper(keeping) = held else {
         return WRONG;
     };
-    keeping.abandon_checkpoint();
-    DONE
+    match keeping.abandon_checkpoint() {
+        Ok(()) => DONE,
+        Err(fault) => fault_status(fault),
+    }
 }

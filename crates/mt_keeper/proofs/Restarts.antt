@@ -1,5 +1,5 @@
 -- A restart from the files that a crash left holds a server of the law.
-use Rattle.std.proofs.Common.{◌≡◌, ◌⊎◌, inl, inr, ℕ, zero, suc, ◌-◌, ◌^◌, ◌≤◌, ◌<◌, Bool, true, false, Option, None, Some, IfSome, List, [], ◌∷◌, ◌++◌, length, flat_map, map, Contains, refl, sym, ap, ◌∙◌, subst, append_assoc, arith}
+use Rattle.std.proofs.Common.{◌≡◌, ◌⊎◌, inl, inr, ℕ, zero, suc, ◌-◌, ◌^◌, ◌≤◌, ◌<◌, max, Bool, true, false, Option, None, Some, IfSome, List, [], ◌∷◌, ◌++◌, length, flat_map, map, Contains, refl, sym, ap, ◌∙◌, subst, append_assoc, arith}
 use Rattle.std.specs.Prelude.{nat_eq}
 use Rattle.std.specs.List.{AllZip, IsDistinct}
 use Rattle.std.specs.List.Sorted.{IsPermutation, apply_swaps}
@@ -34,42 +34,57 @@ use Rattle.mt_laws.proofs.ResumedStores.{cutoff_fits}
 use Rattle.mt_laws.proofs.ServerCrashes.{stands_of}
 use Rattle.mt_keeper.specs.declared.keeper.Log.{Log}
 use Rattle.mt_keeper.specs.Keeping.{Keeping, slot_in, numbered, AreNumbered}
-use Rattle.mt_keeper.specs.Restarting.{without_logs, has_later, segments_of, among, IsBack, AreAdded, AreFilesAfter, going_on, Restarts}
+use Rattle.mt_keeper.specs.declared.resuming.Found.{Found}
+use Rattle.mt_keeper.specs.Restarting.{Resuming, without_logs, has_later, segments_of, among, going_with, IsBack, AreAdded, AreFilesAfter, going_on, Restarts}
 use Rattle.mt_keeper.proofs.OneChanged.{in_numbered, differ_test, apart_in_order, first_apart, none_apart}
 use Rattle.mt_keeper.proofs.Staging.{none_later, writer_in, AreKnown, IsOf, slot_by, slot_among, goes_on, known_more}
 
 -- ---- the logs that were added
 
--- what was added
-record Gathered (before : Keeping) (files : List (List ℕ)) (after : Keeping) : Type 0 where
-  clock : after.clock ≡ before.clock
-  base : after.base ≡ before.base
-  making : after.making ≡ before.making
-  new : List Log
-  logs : after.logs ≡ before.logs ++ new
-  back : AllZip (IsBack before.clock) files new
-  known : AreKnown before.workers before.logs → AreKnown after.workers after.logs
+abbrev pub restart_of : Found → Keeping → Resuming
+restart_of found keeper = record { found = found; keeper = keeper }
 
-gathered : (before : Keeping) (files : List (List ℕ)) (after : Keeping) → AreAdded before files after → Gathered before files after
+-- what was added
+record Gathered (before : Resuming) (files : List (List ℕ)) (after : Resuming) : Type 0 where
+  clock : after.keeper.clock ≡ before.keeper.clock
+  base : after.keeper.base ≡ before.keeper.base
+  making : after.keeper.making ≡ before.keeper.making
+  new : List Log
+  logs : after.keeper.logs ≡ before.keeper.logs ++ new
+  back : AllZip (IsBack before.keeper.clock) files new
+  known : AreKnown before.keeper.workers before.keeper.logs → AreKnown after.keeper.workers after.keeper.logs
+
+gathered : (before : Resuming) (files : List (List ℕ)) (after : Resuming) → AreAdded before files after → Gathered before files after
 gathered before [] after is = record {
-  clock = ap (λ (k : Keeping). k.clock) is;
-  base = ap (λ (k : Keeping). k.base) is;
-  making = ap (λ (k : Keeping). k.making) is;
+  clock = ap (λ (r : Resuming). r.keeper.clock) is;
+  base = ap (λ (r : Resuming). r.keeper.base) is;
+  making = ap (λ (r : Resuming). r.keeper.making) is;
   new = [];
-  logs = ap (λ (k : Keeping). k.logs) is ∙ sym (append-nil before.logs);
+  logs = ap (λ (r : Resuming). r.keeper.logs) is ∙ sym (append-nil before.keeper.logs);
   back = tt;
-  known = λ known. subst (λ (k : Keeping). AreKnown k.workers k.logs) (sym is) known;
+  known = λ known. subst (λ (r : Resuming). AreKnown r.keeper.workers r.keeper.logs) (sym is) known;
 }
 gathered before (bytes ∷ files) after (next, one, rest) =
     let later = gathered next files after rest in record {
-      clock = later.clock ∙ ap (λ (k : Keeping). k.clock) one.after_is;
-      base = later.base ∙ ap (λ (k : Keeping). k.base) one.after_is;
-      making = later.making ∙ ap (λ (k : Keeping). k.making) one.after_is;
+      clock = later.clock ∙ ap (λ (r : Resuming). r.keeper.clock) one.after_is;
+      base = later.base ∙ ap (λ (r : Resuming). r.keeper.base) one.after_is;
+      making = later.making ∙ ap (λ (r : Resuming). r.keeper.making) one.after_is;
       new = one.log ∷ later.new;
-      logs = later.logs ∙ ap (λ (k : Keeping). k.logs ++ later.new) one.after_is ∙ append_assoc before.logs (one.log ∷ []) later.new;
-      back = (one.is_back, subst (λ (clock : ℕ). AllZip (IsBack clock) files later.new) (ap (λ (k : Keeping). k.clock) one.after_is) later.back);
-      known = λ known. later.known (subst (λ (k : Keeping). AreKnown k.workers k.logs) (sym one.after_is) (known_more before.workers before.logs one.log known));
+      logs = later.logs ∙ ap (λ (r : Resuming). r.keeper.logs ++ later.new) one.after_is ∙ append_assoc before.keeper.logs (one.log ∷ []) later.new;
+      back = (one.is_back, subst (λ (clock : ℕ). AllZip (IsBack clock) files later.new) (ap (λ (r : Resuming). r.keeper.clock) one.after_is) later.back);
+      known = λ known.
+          later.known (subst (λ (r : Resuming). AreKnown r.keeper.workers r.keeper.logs) (sym one.after_is) (known_more before.keeper.workers before.keeper.logs one.log known));
     }
+
+-- a later clock has reached these logs too
+still_of : (clock later : ℕ) (logs : List Log) (js : List Journal) → clock ≤ later → AllZip (IsOf clock) logs js → AllZip (IsOf later) logs js
+still_of clock later [] [] past are = tt
+still_of clock later [] (j ∷ js) past are = absurd are
+still_of clock later (l ∷ ls) [] past are = absurd are
+still_of clock later (l ∷ ls) (j ∷ js) past are = (
+  (record { stage = are.0.0.stage; segment = are.0.0.segment; from = are.0.0.from; latest = let low = are.0.0.latest in omega (arith, low, past) }, are.0.1),
+  still_of clock later ls js past are.1,
+)
 
 -- ---- the journals of the files
 
@@ -273,10 +288,9 @@ in_segments clock logs js are j at =
 
 -- ---- a restart
 
-pub restarts : (s : Server) (cutoff begin number salt : ℕ) (files : List (List ℕ)) (keeper : Keeping) → Called s → (of : AreFilesAfter s cutoff begin files)
-    → AreAdded (without_logs cutoff begin number salt) files keeper
-    → Restarts s cutoff begin files of (record keeper { logs = map (among (segments_of keeper.logs)) keeper.logs })
-restarts s cutoff begin number salt files keeper so_far of added = record {
+pub restarts : (s : Server) (found : Found) (number salt : ℕ) (files : List (List ℕ)) (restart : Resuming) → Called s → (of : AreFilesAfter s found.cutoff found.begin files)
+    → AreAdded (without_logs found number salt) files restart → Restarts s found.cutoff found.begin files of (going_with restart)
+restarts s found number salt files restart so_far of added = record {
   slots = slots;
   places = places;
   resumed = resumed_are;
@@ -284,18 +298,28 @@ restarts s cutoff begin number salt files keeper so_far of added = record {
   holds = goes_on keeper js after (record {
     known = all.known (λ log at. absurd (no_element log at));
     none = all.making;
-    logs = subst (λ (clock : ℕ). AllZip (IsOf clock) keeper.logs js) (sym all.clock) logs;
-    clock = sym all.clock;
+    logs = still_of (cutoff - 1) keeper.clock keeper.logs js from_cutoff logs;
+    clock = refl;
     numbers = numbers;
     slots = numbered_are;
-    acked = λ u at. let low = (stands.acked u at).0 in omega (arith, low, all.clock);
+    acked = λ u at. (stands.acked u at).0;
     base = base_low after.checkpoints.base stands.base;
     of_base = of.over ∙ sym all.base;
   });
 }
   where
-    all : Gathered (without_logs cutoff begin number salt) files keeper
-    all = gathered (without_logs cutoff begin number salt) files keeper added
+    cutoff : ℕ
+    cutoff = found.cutoff
+
+    -- the keeper, from the clock at which it goes on
+    keeper : Keeping
+    keeper = let added = restart.keeper in record added { clock = max added.clock restart.found.version }
+
+    all : Gathered (without_logs found number salt) files restart
+    all = gathered (without_logs found number salt) files restart added
+
+    from_cutoff : cutoff - 1 ≤ keeper.clock
+    from_cutoff = omega (arith, all.clock)
 
     fits : cutoff < 2 ^ 64
     fits = subst (λ (c : ℕ). c < 2 ^ 64) of.at (cutoff_fits of.now of.facts.readings of.facts.cutoff of.facts.read of.facts.is_cutoff)
@@ -363,7 +387,7 @@ restarts s cutoff begin number salt files keeper so_far of added = record {
     numbers = numbers_in_order slots (places_of of.names) places places_order (have_numbers segments of.names back.js have)
 
     after : Server
-    after = going_on s cutoff of.facts.chosen slots places
+    after = going_on s keeper.clock of.facts.chosen slots places
 
     numbered_are : numbered after ≡ map (slot_among segments) js
     numbered_are =
@@ -399,12 +423,12 @@ restarts s cutoff begin number salt files keeper so_far of added = record {
     }
 
     called_after : Called after
-    called_after = restarted s of.names of.left of.parts of.now of.now_parts of.facts slots (cutoff - 1) places so_far of.crash of.stops
-        (subst (λ (c : ℕ). AreResumed c of.names of.now slots) (sym of.at) resumed_are) (omega (arith, of.at))
+    called_after = restarted s of.names of.left of.parts of.now of.now_parts of.facts slots keeper.clock places so_far of.crash of.stops
+        (subst (λ (c : ℕ). AreResumed c of.names of.now slots) (sym of.at) resumed_are) (omega (arith, of.at, from_cutoff))
 
     stands : Stands after
     stands = stands_of after called_after
 
     base_low : (base : Option CheckpointReading) → IfSome base (λ b. Contains after.checkpoints.written b × AllSyncedAbove b.end (files_of slots)) → IfSome base (λ b. b.end ≤ keeper.clock)
     base_low None is = tt
-    base_low (Some b) is = let low = (stands.written b is.0).1 in omega (arith, low, all.clock)
+    base_low (Some b) is = (stands.written b is.0).1

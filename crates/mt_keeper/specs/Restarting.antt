@@ -21,23 +21,32 @@ use Rattle.mt_laws.specs.Lives.{LogOf, only}
 use Rattle.mt_laws.specs.Writing.{Slot, writing, Server, IsCrashOf, AreStops, AreResumed, Called}
 use Rattle.mt_keeper.specs.declared.keeper.Stage.TheVariants.{Writing, Followed}
 use Rattle.mt_keeper.specs.declared.keeper.Log.{Log}
+use Rattle.mt_keeper.specs.declared.resuming.Found.{Found}
 use Rattle.mt_keeper.specs.declared.keeper_fault.KeeperFault.{KeeperFault}
 use Rattle.mt_keeper.specs.declared.keeper_fault.KeeperFault.TheVariants as faults
 use Rattle.mt_keeper.specs.Keeping.{Keeping, Holds, IsLogOf, latest_in}
 
 -- ---- the files that are added
 
--- the keeper before a log is added
-abbrev pub without_logs : (cutoff begin number salt : ℕ) → Keeping
-without_logs cutoff begin number salt = record {
-  clock = cutoff - 1;
-  logs = [];
-  workers = 0;
-  base = begin;
-  making = None;
-  next = min (number + 1) (2 ^ 32 - 1);
-  salt = salt;
-  failed = false;
+-- what a contract sees of a restart: what recovery found, and the keeper of the logs that were added, which counts from the cutoff
+pub record Resuming : Type 0 where
+  pub found : Found
+  pub keeper : Keeping
+
+-- the restart before a log is added
+abbrev pub without_logs : Found → (number salt : ℕ) → Resuming
+without_logs found number salt = record {
+  found = found;
+  keeper = record {
+    clock = found.cutoff - 1;
+    logs = [];
+    workers = 0;
+    base = found.begin;
+    making = None;
+    next = min (number + 1) (2 ^ 32 - 1);
+    salt = salt;
+    failed = false;
+  };
 }
 
 -- a writer may go on with the log, which has no timestamp above the next stamp, and is not ended
@@ -65,16 +74,16 @@ workers_with workers None = workers
 workers_with workers (Some segment) = max workers (segment.worker + 1)
 
 -- the log of these bytes was added, which was not there
-pub record IsAdded (before : Keeping) (bytes : List ℕ) (after : Keeping) : Type 0 where
+pub record IsAdded (before : Resuming) (bytes : List ℕ) (after : Resuming) : Type 0 where
   pub log : Log
-  pub is_back : IsBack before.clock bytes log
-  pub is_new : HasSame log.segment before.logs → ⊥
-  pub after_is : after ≡ record before { logs = before.logs ++ log ∷ []; workers = workers_with before.workers log.segment }
+  pub is_back : IsBack before.keeper.clock bytes log
+  pub is_new : HasSame log.segment before.keeper.logs → ⊥
+  pub after_is : after ≡ record before { keeper = record before.keeper { logs = before.keeper.logs ++ log ∷ []; workers = workers_with before.keeper.workers log.segment } }
 
 -- the logs of these files were added, in this order
-abbrev pub AreAdded : Keeping → List (List ℕ) → Keeping → Type 0
+abbrev pub AreAdded : Resuming → List (List ℕ) → Resuming → Type 0
 AreAdded before [] after = after ≡ before
-AreAdded before (bytes ∷ files) after = (next : Keeping) × IsAdded before bytes next × AreAdded next files after
+AreAdded before (bytes ∷ files) after = (next : Resuming) × IsAdded before bytes next × AreAdded next files after
 
 -- the bytes are no log that goes on
 abbrev pub IsNoLog : ℕ → List ℕ → Type 0
@@ -100,6 +109,11 @@ segments_of logs = map (λ log. log.segment) logs
 abbrev pub among : List (Option Segment) → Log → Log
 among segments log = if has_later log.segment segments then record log { stage = Followed (latest_in log.stage) } else log
 
+-- The keeper of the logs that were added. It counts on above the greatest version that recovery found, too. Each log that a later segment follows is written no more.
+abbrev pub going_with : Resuming → Keeping
+going_with restart =
+    let keeper = restart.keeper in record keeper { clock = max keeper.clock restart.found.version; logs = map (among (segments_of keeper.logs)) keeper.logs }
+
 -- These files are those of the server after a crash and a resume, in any order, at this cutoff, over a chosen checkpoint with this begin, or 0 without one. The resume may
 -- have been stopped.
 pub record AreFilesAfter (s : Server) (cutoff begin : ℕ) (files : List (List ℕ)) : Type 0 where
@@ -117,14 +131,14 @@ pub record AreFilesAfter (s : Server) (cutoff begin : ℕ) (files : List (List �
   pub resumed : AllZip (IsReplaced cutoff) now replaced
   pub in_any_order : IsPermutation replaced files
 
--- the server that goes on with these slots, and with numbers for these places
-abbrev pub going_on : Server → (cutoff : ℕ) → Option CheckpointReading → List Slot → (places : List ℕ) → Server
-going_on s cutoff chosen slots places = record { clock = cutoff - 1; acked = s.acked; slots = slots; places = places; checkpoints = only chosen }
+-- the server that goes on from this clock with these slots, and with numbers for these places
+abbrev pub going_on : Server → (clock : ℕ) → Option CheckpointReading → List Slot → (places : List ℕ) → Server
+going_on s clock chosen slots places = record { clock = clock; acked = s.acked; slots = slots; places = places; checkpoints = only chosen }
 
--- The keeper holds a server that goes on after the crash as the law says: with the same acknowledged updates, and the resumed files.
+-- The keeper holds a server that goes on after the crash as the law says: from the keeper's clock, with the same acknowledged updates, and the resumed files.
 pub record Restarts (s : Server) (cutoff begin : ℕ) (files : List (List ℕ)) (of : AreFilesAfter s cutoff begin files) (keeper : Keeping) : Type 0 where
   pub slots : List Slot
   pub places : List ℕ
   pub resumed : AreResumed cutoff of.names of.now slots
-  pub is_called : Called (going_on s cutoff of.facts.chosen slots places)
-  pub holds : Holds keeper (going_on s cutoff of.facts.chosen slots places)
+  pub is_called : Called (going_on s keeper.clock of.facts.chosen slots places)
+  pub holds : Holds keeper (going_on s keeper.clock of.facts.chosen slots places)

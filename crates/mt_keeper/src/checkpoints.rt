@@ -66,11 +66,18 @@ impl Keeper {
     }
 
     /// Gives up the checkpoint that is being made, if any.
-    pub fn abandon_checkpoint(&mut self)
-        ensures value { self.new ≡ record self.old { making = None } }
+    pub fn abandon_checkpoint(&mut self) -> Result<(), KeeperFault>
+        ensures ok { OnOk result (self.new ≡ record self.old { making = None }) }
         ensures kept { (s : Server) → Holds self.old s → Holds self.new s }
+        ensures err { OnErr result (self.new ≡ self.old) }
+        ensures failed { self.old.failed ≡ true → result ≡ Err (faults.Writer Failed) }
+        ensures fault { IfErr result (HasFailed self.old) }
     {
+        if self.failed {
+            return Err(WriterFault::Failed.into());
+        }
         self.making = None;
+        Ok(())
     }
 
     /// Notes that all parts of the checkpoint that was read have their names and are synced, and the folder too. From now on

@@ -42,4 +42,4 @@ pub use first::First;
 pub use keeper::Keeper;
 pub use keeper_fault::KeeperFault;
 pub use lent_log::LentLog;
-pub use resuming::Restart;
+pub use resuming::{Found, Restart};

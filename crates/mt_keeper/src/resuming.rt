@@ -1,12 +1,13 @@
 //! Goes on with the logs that a crash left.
-ghost use Rattle.std.specs.Prelude.{◌≡◌, ◌⊎◌, ◌+◌, ◌^◌, ◌↔◌, ℕ, List, length, map, IsTrue, IsSomeAnd, IfOk, IfErr, OnErr};
+ghost use Rattle.std.specs.Prelude.{◌≡◌, ◌≢◌, ◌⊎◌, ◌+◌, ◌^◌, ◌↔◌, ℕ, List, length, map, IsTrue, IsSomeAnd, IfOk, IfErr, OnErr};
 ghost use Rattle.std.specs.List.{list_any};
 ghost use Rattle.mt_scan.specs.Segments.{is_earlier as is_earlier_in};
 ghost use Rattle.mt_writer.specs.Framing.{HasMark};
 ghost use Rattle.mt_writer.specs.declared.writer_fault.WriterFault.TheVariants.{Full, Memory as MemoryFault};
 ghost use Rattle.mt_laws.specs.Writing.{Server, Called};
 ghost use Rattle.mt_keeper.specs.Keeping.{latest_in};
-ghost use Rattle.mt_keeper.specs.Restarting.{without_logs, IsBack, IsNoLog, HasSame, IsAdded, AreAdded, AddsNone, workers_with, segments_of, among, AreFilesAfter, Restarts};
+ghost use Rattle.mt_keeper.specs.Restarting.{without_logs, IsBack, IsNoLog, HasSame, IsAdded, AreAdded, AddsNone, workers_with, segments_of, among, going_with, AreFilesAfter, Restarts};
+ghost use Rattle.mt_keeper.specs.declared.resuming.Found.{Found as FoundValue};
 ghost use Rattle.mt_keeper.specs.declared.keeper_fault.KeeperFault.TheVariants as faults;
 
 use crate::keeper::{Keeper, Log, Stage};
@@ -18,35 +19,49 @@ use mt_writer::{LogWriter, WriterFault};
 use std::alloc::Global;
 use std::marker::Model;
 
+/// What recovery found, as its report has it.
+#[derive(Clone, Copy)]
+pub struct Found {
+    /// The number of log files.
+    pub logs: usize,
+    /// The cutoff: the next stamp is at least that, or 1 if that is 0.
+    pub cutoff: u64,
+    /// The greatest version of all complete records, late ones included, and of the entries of the chosen checkpoint: the next
+    /// stamp is above it.
+    pub version: u64,
+    /// Where the chosen checkpoint begins, or 0.
+    pub begin: u64,
+}
+
 /// The logs that a crash left, with which a server goes on. Each was resumed (`resume_log` of `mt_record`), and its file
 /// replaced.
 #[derive(Drop)]
 pub struct Restart {
-    /// All logs are written, whether or not a later segment of theirs is there.
+    found: Found,
+    /// All logs are written, whether or not a later segment of theirs is there. The clock is one below the cutoff, or 0.
     keeper: Keeper,
 }
 
 impl Model for Restart {
-    ghost use Rattle.mt_keeper.specs.Keeping.{Keeping};
+    ghost use Rattle.mt_keeper.specs.Restarting.{Resuming};
 
-    ghost Value = { Keeping };
+    ghost Value = { Resuming };
 
-    ghost view = { λ r. r.keeper };
+    ghost view = { λ r. record { found = r.found; keeper = r.keeper } };
 }
 
 impl Restart {
-    /// Begins without a log. `cutoff` is that of the recovery: the next stamp is the cutoff, or 1 if that is 0. `begin` is
-    /// that of the checkpoint that recovery chose, or 0. `number` is the greatest number of a part in the folder, or 0.
-    /// `salt` is a random number.
-    pub fn new(alloc: Global, cutoff: u64, begin: u64, number: u32, salt: u64) -> Restart
-        ensures { result ≡ without_logs cutoff begin number salt }
+    /// Begins without a log. `number` is the greatest number of a part in the folder, or 0. `salt` is a random number.
+    pub fn new(alloc: Global, found: Found, number: u32, salt: u64) -> Restart
+        ensures { result ≡ without_logs found number salt }
     {
         Restart {
+            found,
             keeper: Keeper {
-                clock: cutoff.saturating_sub(1),
+                clock: found.cutoff.saturating_sub(1),
                 logs: Vec::new(alloc),
                 workers: 0,
-                base: begin,
+                base: found.begin,
                 making: None,
                 next: number.saturating_add(1),
                 salt,
@@ -59,10 +74,10 @@ impl Restart {
     /// log (`LogWriter::resumed`), or it ends past the cutoff, or was ended, or is a segment that was added. `Full`: no
     /// number is left for another worker.
     pub fn add(&mut self, alloc: Global, bytes: &[u8]) -> Result<usize, KeeperFault>
-        ensures number { IfOk result (λ number. number ≡ length self.old.logs) }
+        ensures number { IfOk result (λ number. number ≡ length self.old.keeper.logs) }
         ensures added { IfOk result (λ number. IsAdded self.old bytes.now self.new) }
         ensures err { OnErr result (self.new ≡ self.old) }
-        ensures fault { IfErr result (AddsNone self.old bytes.now) }
+        ensures fault { IfErr result (AddsNone self.old.keeper bytes.now) }
     {
         let log = read_back(alloc, bytes, self.keeper.clock)?;
         if has_same(&self.keeper.logs, log.segment) {
@@ -78,16 +93,23 @@ impl Restart {
         Ok(number)
     }
 
-    /// Returns the keeper of these logs, after all were added, in any order. The newest segment of each worker may be
-    /// written, and so may each log that is no segment.
-    pub fn done(self) -> Keeper
-        ensures value { result ≡ record self { logs = map (among (segments_of self.logs)) self.logs } }
-        ensures restarts { (s : Server) (cutoff begin number salt : ℕ) (files : List (List ℕ)) → Called s → (of : AreFilesAfter s cutoff begin files) →
-            AreAdded (without_logs cutoff begin number salt) files self → Restarts s cutoff begin files of result }
+    /// Returns the keeper of these logs. The newest segment of each worker may be written, and so may each log that is no
+    /// segment. The next stamp is at least the cutoff, and above the greatest version that recovery found. Err: not as many
+    /// logs were added as recovery had; nothing changed.
+    pub fn done(self) -> Result<Keeper, Restart>
+        ensures value { IfOk result (λ keeper. keeper ≡ going_with self) }
+        ensures all { IfOk result (λ keeper. length self.keeper.logs ≡ self.found.logs) }
+        ensures early { IfErr result (λ restart. (restart ≡ self) × (length self.keeper.logs ≢ self.found.logs)) }
+        ensures restarts { (s : Server) (found : FoundValue) (number salt : ℕ) (files : List (List ℕ)) → Called s → (of : AreFilesAfter s found.cutoff found.begin files) →
+            AreAdded (without_logs found number salt) files self → IfOk result (Restarts s found.cutoff found.begin files of) }
     {
-        let mut keeper = self.keeper;
+        if self.keeper.logs.len() != self.found.logs {
+            return Err(self);
+        }
+        let Restart { found, mut keeper } = self;
+        keeper.clock = keeper.clock.max(found.version);
         settle(&mut keeper.logs);
-        keeper
+        Ok(keeper)
     }
 }
 

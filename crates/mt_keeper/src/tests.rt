@@ -1,7 +1,7 @@
 //! Tests of what no contract says: that calls succeed.
 ghost use Rattle.std.specs.Prelude.{◌≡◌, IfSome};
 
-use crate::{Crew, First, Keeper, KeeperFault, LentLog, Restart};
+use crate::{Crew, First, Found, Keeper, KeeperFault, LentLog, Restart};
 use mt_record::{Given, encode_log_header_3, encode_record, read_log};
 use mt_words::Record;
 use mt_writer::WriterFault;
@@ -60,17 +60,57 @@ fn a_segment_follows_once_all_is_synced(rt: HostRuntime) {
     assert_eq!(&rt; keeper.mark(1), Ok(()));
 }
 
+/// The log of worker 0, with a mark at 1.
+fn marked_log(alloc: Global, rt: &impl Abort) -> Vec<u8> {
+    let mut log = Vec::new(alloc);
+    encode_log_header_3(0, 0, 0, &mut log).expect(rt, "memory");
+    encode_record(&Record::mark(1), &mut log).expect(rt, "memory");
+    log
+}
+
+/// A restart at cutoff 1 from a recovery that had this number of logs and this greatest version.
+fn restart(alloc: Global, logs: usize, version: u64) -> Restart {
+    let found = Found {
+        logs,
+        cutoff: 1,
+        version,
+        begin: 0,
+    };
+    Restart::new(alloc, found, 0, 9)
+}
+
 #[test]
 fn a_restart_goes_on_with_a_log_once(rt: HostRuntime) {
     let alloc = rt.alloc();
-    let mut log = Vec::new(alloc);
-    encode_log_header_3(0, 0, 0, &mut log).expect(&rt, "memory");
-    encode_record(&Record::mark(1), &mut log).expect(&rt, "memory");
-    let mut restart = Restart::new(alloc, 1, 0, 0, 9);
+    let log = marked_log(alloc, &rt);
+    let mut restart = restart(alloc, 1, 0);
     assert_eq!(&rt; restart.add(alloc, &log), Ok(0));
     assert_eq!(&rt; restart.add(alloc, &log), Err(KeeperFault::Log));
-    let mut keeper = restart.done();
+    let Ok(mut keeper) = restart.done() else {
+        panic!(&rt; "the keeper does not go on");
+    };
     assert_eq!(&rt; keeper.remove(0, b"k"), Ok(1));
+}
+
+#[test]
+fn a_restart_goes_on_above_each_version(rt: HostRuntime) {
+    let alloc = rt.alloc();
+    let log = marked_log(alloc, &rt);
+    let mut restart = restart(alloc, 1, 20);
+    assert_eq!(&rt; restart.add(alloc, &log), Ok(0));
+    let Ok(mut keeper) = restart.done() else {
+        panic!(&rt; "the keeper does not go on");
+    };
+    assert_eq!(&rt; keeper.remove(0, b"k"), Ok(21));
+}
+
+#[test]
+fn a_restart_does_not_go_on_without_a_log(rt: HostRuntime) {
+    let alloc = rt.alloc();
+    let log = marked_log(alloc, &rt);
+    let mut restart = restart(alloc, 2, 0);
+    assert_eq!(&rt; restart.add(alloc, &log), Ok(0));
+    assert!(&rt; restart.done().is_err());
 }
 
 #[test]
@@ -79,9 +119,11 @@ fn a_restart_goes_on_with_blocks(rt: HostRuntime) {
     let first = First::begin(alloc, 7).expect(&rt, "memory");
     let mut file = Vec::new(alloc);
     file.extend_from_slice(first.bytes()).expect(&rt, "memory");
-    let mut restart = Restart::new(alloc, 1, 0, 0, 9);
+    let mut restart = restart(alloc, 1, 0);
     assert_eq!(&rt; restart.add(alloc, &file), Ok(0));
-    let mut keeper = restart.done();
+    let Ok(mut keeper) = restart.done() else {
+        panic!(&rt; "the keeper does not go on");
+    };
     assert_eq!(&rt; keeper.remove(0, b"k"), Ok(1));
     let block = keeper.take(0, Vec::new(alloc)).expect(&rt, "a block");
     file.extend_from_slice(&block).expect(&rt, "memory");
@@ -102,10 +144,9 @@ fn one_write_is_in_flight(rt: HostRuntime) {
 fn a_failed_keeper_takes_nothing(rt: HostRuntime) {
     let mut keeper = keeper(rt.alloc(), &rt);
     keeper.failed();
-    assert_eq!(&rt;
-        keeper.mark(0),
-        Err(KeeperFault::Writer(WriterFault::Failed))
-    );
+    let failed = KeeperFault::Writer(WriterFault::Failed);
+    assert_eq!(&rt; keeper.mark(0), Err(failed));
+    assert_eq!(&rt; keeper.abandon_checkpoint(), Err(failed));
 }
 
 /// Lends the two logs of a server.
