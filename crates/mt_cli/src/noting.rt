@@ -175,10 +175,13 @@ struct Noted<'a>(&'a str);
 
 impl<'a> Display for Noted<'a> {
     fn fmt<W: fmt::Write>(&self, f: &mut Formatter<W>) -> fmt::Result {
-        let mut sign = "";
+        let mut is_first = true;
         for piece in self.0.split('\\') {
-            write!(f, "{sign}{}", Shown(piece))?;
-            sign = "\\";
+            if !is_first {
+                write!(f, "\\")?;
+            }
+            write!(f, "{}", Shown(piece))?;
+            is_first = false;
         }
         Ok(())
     }

@@ -361,8 +361,9 @@ fn has_same_bytes<R: Host>(rt: &R, path: &PathBuf) -> io::Result<bool> {
         if old.held.is_empty() {
             break;
         }
-        old.pass(old.held.len());
-        new.pass(new.held.len());
+        let size = old.held.len();
+        old.pass(size);
+        new.pass(size);
         old.read(1)?;
         new.read(1)?;
     }
