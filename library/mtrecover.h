@@ -367,6 +367,32 @@ uint32_t mtr_checkpoint_stand(mtr_place *keeper);
 /* Gives up the checkpoint that is being made, if there is one. */
 uint32_t mtr_checkpoint_abandon(mtr_place *keeper);
 
+/* A part of a checkpoint, in format 4. The place holds what writes it, and keeps its rules: keys rise, entries are lawful, and
+ * the footer has their number. So recovery reads what is taken, once all of it is in the file. A call that is refused changes
+ * nothing: then give the checkpoint up, and delete nothing for it.
+ *
+ * Begins part `part`, counted from 0, of the `parts` parts of checkpoint `number` in the empty place `writer`. `begin` and
+ * `number` are those of mtr_checkpoint_begin, `salt` is a random number, new for each file. mtr_part_begin_above: all keys
+ * are to be above `above`, the last key of the part before. WRONG: the place is not empty. */
+uint32_t mtr_part_begin(mtr_place *writer, uint64_t salt, uint32_t number, uint64_t begin, uint16_t part, uint16_t parts);
+uint32_t mtr_part_begin_above(mtr_place *writer, uint64_t salt, uint32_t number, uint64_t begin, uint16_t part,
+                              uint16_t parts, const uint8_t *above, size_t above_length);
+
+/* Appends the entry of a key. Keys rise as unsigned bytes do, and a prefix comes first. WRONG: the key is not above the last
+ * one, no part of format 4 may have the entry, the part has ended, or the place holds no writer of a part. FULL: it has
+ * 2^32 - 1 entries. */
+uint32_t mtr_part_entry(mtr_place *writer, uint64_t version, const uint8_t *key, size_t key_length,
+                        const mtr_column *columns, size_t column_count);
+
+/* Ends the part. `end` is that of mtr_checkpoint_end. WRONG: it is below the begin, the part has ended, or the place holds
+ * no writer of a part. */
+uint32_t mtr_part_end(mtr_place *writer, uint64_t end);
+
+/* Takes what is to be appended to the part's file now: the header, then whole blocks, each of at most 4,096 bytes of entries
+ * or a single longer one. There may be none. From then on `buffer` holds these bytes, as for mtr_log_take. After mtr_part_end
+ * they are all that was left. WRONG: the place holds no writer of a part, or `buffer` is not empty and holds no bytes. */
+uint32_t mtr_part_take(mtr_place *writer, mtr_place *buffer, mtr_lent *lent);
+
 /* The next file that is to be deleted: a worker's lowest segment, without updates from the checkpoint's begin on. Delete
  * it, sync the folder, and tell mtr_log_deleted. ABSENT: there is none. */
 uint32_t mtr_log_delete(mtr_place *keeper, size_t *log);

@@ -821,6 +821,96 @@ static void test_take(void) {
     expect("all is freed", blocks == 0);
 }
 
+static uint32_t enter(mtr_place *part, const char *key) {
+    mtr_column column = {0, {text("z"), 1}};
+    return mtr_part_entry(part, 9, text(key), strlen(key), &column, 1);
+}
+
+/* A part that is written: the same bytes as those of the test of the crate mt_checkpoint, and recovery reads them. */
+static void test_written_part(void) {
+    static const uint8_t expected[] =
+        "MTC4\0\0\0\0\0\0\0\x01\0\0\0\x07\0\x01\0\x02\0\0\0\x01\0\0\0\0\0\0\0\x64\xc0\xf4\x56\x4b"
+        "\xc0\xf4\x56\x4b\0\0\0\x28\x23\xa1\0\x9e\0\0\0\x10\0\0\0\0\0\0\0\x09\0\x01" "c\x01\0\0\x01z\0\0\0\x10"
+        "\0\0\0\0\0\0\0\0\0\0\0\x64\0\0\0\x01\xc4\xe4\xde\x78";
+    mtr_place part = {0}, buffer = {0}, keeper = example_keeper(), inputs = {0}, feed = {0};
+    mtr_column column = {0, {text("z"), 1}};
+    mtr_fault fault = {0};
+    mtr_lent lent = {NULL, 0};
+    uint8_t log[128];
+    size_t count = 0;
+    uint32_t mark = 0;
+    expect("no part takes an entry", enter(&part, "c") == MTR_WRONG && mtr_part_end(&part, 100) == MTR_WRONG &&
+                                         mtr_part_take(&part, &buffer, &lent) == MTR_WRONG && !buffer.full);
+    expect("a keeper is no part", enter(&keeper, "c") == MTR_WRONG && mtr_part_begin(&keeper, 1, 7, 100, 1, 2) == MTR_WRONG);
+    expect("a second part", mtr_part_begin_above(&part, 1, 7, 100, 1, 2, text("b"), 1) == MTR_DONE);
+    expect("the last key of the first one", enter(&part, "b") == MTR_WRONG);
+    expect("a key above it", enter(&part, "c") == MTR_DONE);
+    expect("no version", mtr_part_entry(&part, 0, text("d"), 1, &column, 1) == MTR_WRONG);
+    expect("no column", mtr_part_entry(&part, 9, text("d"), 1, NULL, 0) == MTR_WRONG);
+    expect("a header is taken", mtr_part_take(&part, &buffer, &lent) == MTR_DONE && lent.length == 36 &&
+                                    memcmp(lent.at, expected, 36) == 0);
+    expect("nothing more", mtr_part_take(&part, &buffer, &lent) == MTR_DONE && lent.length == 0);
+    expect("a low end", mtr_part_end(&part, 99) == MTR_WRONG && mtr_part_end(&part, 100) == MTR_DONE);
+    expect("it has ended", mtr_part_end(&part, 100) == MTR_WRONG && enter(&part, "d") == MTR_WRONG);
+    expect("a block is taken", mtr_part_take(&part, &buffer, &lent) == MTR_DONE && lent.length == sizeof expected - 1 - 36 &&
+                                   memcmp(lent.at, expected + 36, lent.length) == 0);
+    mtr_free(&part);
+    expect("a whole checkpoint", mtr_part_begin(&part, 1, 7, 100, 0, 1) == MTR_DONE && enter(&part, "k") == MTR_DONE);
+    expect("an equal key", enter(&part, "k") == MTR_WRONG);
+    expect("a lower key", enter(&part, "a") == MTR_WRONG && enter(&part, "") == MTR_WRONG);
+    expect("a longer one", enter(&part, "ka") == MTR_DONE && mtr_part_end(&part, 100) == MTR_DONE);
+    expect("all of it", mtr_part_take(&part, &buffer, &lent) == MTR_DONE && lent.length > 36);
+    expect("it is fed", mtr_feed_part(&feed) == MTR_DONE && mtr_feed(&feed, lent.at, lent.length) == MTR_DONE &&
+                            mtr_add(&inputs, &feed) == MTR_DONE);
+    length = 0;
+    append(mtr_mark(101, rest(), room(), &count), &count, 17);
+    expect("a log from its begin", mtr_log_header_4(2, 0, 0, 1, 100, log, sizeof log, &count, &mark) == MTR_DONE && count == 44);
+    expect("a mark above its end", mtr_seal(mark, file, length, log + 44, sizeof log - 44, &count) == MTR_DONE);
+    expect("it is recovered", mtr_feed_log(&feed) == MTR_DONE && mtr_feed(&feed, log, 44 + count) == MTR_DONE &&
+                                  mtr_add(&inputs, &feed) == MTR_DONE && mtr_recover(&inputs, &fault) == MTR_DONE);
+    expect("its keys", has(&inputs, "k", 0, "z") && has(&inputs, "ka", 0, "z"));
+    mtr_free(&inputs);
+    mtr_free(&buffer);
+    mtr_free(&part);
+    mtr_free(&keeper);
+    expect("all is freed", blocks == 0);
+}
+
+/* A part takes no entry, and does not end, if memory fails; and then it does. */
+static void test_part_memory(void) {
+    static const uint8_t value[4000];
+    mtr_column column = {0, {value, sizeof value}};
+    mtr_place part = {0}, buffer = {0};
+    mtr_lent lent = {NULL, 0};
+    uint32_t status = MTR_MEMORY;
+    size_t allowed, key;
+    expect("a part", mtr_part_begin(&part, 1, 7, 100, 0, 1) == MTR_DONE);
+    for (key = 0; key < 3; key++, status = MTR_MEMORY) {
+        for (allowed = 0; status == MTR_MEMORY && allowed < 64; allowed++) {
+            left = allowed;
+            status = mtr_part_entry(&part, 9, text("abc") + key, 1, &column, 1);
+            left = SIZE_MAX;
+        }
+        expect("an entry", status == MTR_DONE);
+    }
+    for (allowed = 0; status == MTR_MEMORY && allowed < 64; allowed++) {
+        left = allowed;
+        status = mtr_part_end(&part, 100);
+        left = SIZE_MAX;
+    }
+    expect("it ends", status == MTR_DONE);
+    status = MTR_MEMORY;
+    for (allowed = 0; status == MTR_MEMORY && allowed < 64; allowed++) {
+        left = allowed;
+        status = mtr_part_take(&part, &buffer, &lent);
+        left = SIZE_MAX;
+    }
+    expect("three blocks and a footer", status == MTR_DONE && lent.length == 36 + 3 * (16 + 23 + sizeof value) + 16);
+    mtr_free(&buffer);
+    mtr_free(&part);
+    expect("all is freed", blocks == 0);
+}
+
 /* A log that holds more than a block has room for takes no record until they are taken. */
 static void test_early(void) {
     static const uint8_t value[65535];
@@ -1144,6 +1234,8 @@ int main(int argc, char **argv) {
     test_resume_small();
     test_keeper();
     test_take();
+    test_written_part();
+    test_part_memory();
     test_early();
     test_segments();
     test_restart(3);

@@ -409,4 +409,25 @@ extern "C" {
     pub fn mtr_checkpoint_end(keeper: *mut RawPlace, end: *mut u64) -> u32;
     pub fn mtr_checkpoint_stand(keeper: *mut RawPlace) -> u32;
     pub fn mtr_checkpoint_abandon(keeper: *mut RawPlace) -> u32;
+    pub fn mtr_part_begin(writer: *mut RawPlace, salt: u64, number: u32, begin: u64, part: u16, parts: u16) -> u32;
+    pub fn mtr_part_begin_above(
+        writer: *mut RawPlace,
+        salt: u64,
+        number: u32,
+        begin: u64,
+        part: u16,
+        parts: u16,
+        above: *const u8,
+        above_length: usize,
+    ) -> u32;
+    pub fn mtr_part_entry(
+        writer: *mut RawPlace,
+        version: u64,
+        key: *const u8,
+        key_length: usize,
+        columns: *const Column,
+        column_count: usize,
+    ) -> u32;
+    pub fn mtr_part_end(writer: *mut RawPlace, end: u64) -> u32;
+    pub fn mtr_part_take(writer: *mut RawPlace, buffer: *mut RawPlace, lent: *mut RawLent) -> u32;
 }

@@ -125,6 +125,27 @@ pub struct Checkpoint {
     pub begin: u64,
 }
 
+/// Writes a part of a checkpoint, in format 4. It keeps the part's rules: keys rise, entries are lawful, and the footer has
+/// their number. It owns no file: it gives the bytes. If a call is refused, give the checkpoint up ([`Keeper::abandon`]), and
+/// delete nothing for it.
+///
+/// ```
+/// # use mtrecover::keeper::{Buffer, Checkpoint, KeeperError, PartWriter};
+/// # use mtrecover::records::Column;
+/// # let (salt, checkpoint, end) = (7, Checkpoint { number: 1, begin: 5 }, 6);
+/// let mut part = PartWriter::begin(salt, &checkpoint, 0, 1)?;
+/// part.entry(4, b"fig", &[Column::new(0, b"green")])?;
+/// assert_eq!(part.entry(3, b"fig", &[Column::new(0, b"ripe")]), Err(KeeperError::NotLawful));
+/// part.end(end)?;
+///
+/// let mut buffer = Buffer::new();
+/// let file = part.take(&mut buffer)?.to_vec();
+/// # assert_eq!(file.len(), 36 + 16 + 30 + 16);
+/// # Ok::<(), KeeperError>(())
+/// ```
+#[derive(Debug)]
+pub struct PartWriter(Place);
+
 /// A keeper that goes on after a crash, while it takes the logs that the last server left.
 #[derive(Debug)]
 pub struct Resuming {
@@ -138,7 +159,8 @@ pub struct Resuming {
 pub enum KeeperError {
     /// There is not enough memory.
     OutOfMemory,
-    /// No log of format 2 has the record; the log is another keeper's, or does not go on; or a checkpoint has a greater number.
+    /// No log or part of format 2 has the record or entry; the log is another keeper's; it, or the part, does not go on; a part's
+    /// key is not above the last one; or a checkpoint has a greater number.
     NotLawful,
     /// What the call waits for did not happen yet.
     Early,
@@ -530,6 +552,61 @@ impl OldLog {
     /// The segment that it is, for its file's name.
     pub fn segment(&self) -> Segment {
         self.segment
+    }
+}
+
+impl PartWriter {
+    /// Begins part `part`, counted from 0, of the `parts` parts of this checkpoint. `salt` is a random number, new for each
+    /// file.
+    pub fn begin(salt: u64, checkpoint: &Checkpoint, part: u16, parts: u16) -> Result<PartWriter, OutOfMemory> {
+        let Checkpoint { number, begin } = *checkpoint;
+        let place = Place::empty();
+        // SAFETY: the place is empty.
+        done(unsafe { c::mtr_part_begin(place.raw(), salt, number, begin, part, parts) })?;
+        Ok(PartWriter(place))
+    }
+
+    /// Begins a part likewise. All its keys are to be above `above`, the last key of the part before it.
+    pub fn begin_above(
+        salt: u64,
+        checkpoint: &Checkpoint,
+        part: u16,
+        parts: u16,
+        above: &[u8],
+    ) -> Result<PartWriter, OutOfMemory> {
+        let Checkpoint { number, begin } = *checkpoint;
+        let place = Place::empty();
+        // SAFETY: the place is empty, and the key is lent for the call.
+        done(unsafe {
+            c::mtr_part_begin_above(place.raw(), salt, number, begin, part, parts, above.as_ptr(), above.len())
+        })?;
+        Ok(PartWriter(place))
+    }
+
+    /// Appends the entry of a key with these columns, whose numbers rise. Keys rise as bytes do. `NotLawful`: the key is not
+    /// above the last one, no part of format 4 has the entry, or the part has ended. `Full`: it has 2^32 - 1 entries.
+    pub fn entry(&mut self, version: u64, key: &[u8], columns: &[Column]) -> Result<(), KeeperError> {
+        // SAFETY: the place holds a writer of a part, and slices are lent for the call.
+        answered(unsafe {
+            c::mtr_part_entry(self.0.raw(), version, key.as_ptr(), key.len(), columns.as_ptr(), columns.len())
+        })
+    }
+
+    /// Ends the part, whose checkpoint ends at `end` ([`Keeper::end_checkpoint`]). `NotLawful`: that is below its begin, or the
+    /// part has ended.
+    pub fn end(&mut self, end: u64) -> Result<(), KeeperError> {
+        // SAFETY: the place holds a writer of a part.
+        answered(unsafe { c::mtr_part_end(self.0.raw(), end) })
+    }
+
+    /// Takes what is to be appended to the part's file now: the header, then whole blocks. There may be none. After
+    /// [`PartWriter::end`] it is all that was left.
+    pub fn take<'b>(&mut self, buffer: &'b mut Buffer) -> Result<&'b [u8], KeeperError> {
+        let mut raw = NOTHING;
+        // SAFETY: one place holds a writer of a part, and the buffer nothing or bytes.
+        answered(unsafe { c::mtr_part_take(self.0.raw(), buffer.0.raw(), &mut raw) })?;
+        // SAFETY: the buffer is borrowed for `'b`.
+        Ok(unsafe { lent(raw) })
     }
 }
 

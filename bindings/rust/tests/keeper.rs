@@ -1,6 +1,6 @@
 //! The keeper of logs: what its types let a server do. What its calls answer is proved, and `library/test.c` shows it.
 
-use mtrecover::keeper::{Buffer, Keeper, KeeperError, Log, NewLog, Resuming, Segment, Worker};
+use mtrecover::keeper::{Buffer, Keeper, KeeperError, Log, NewLog, PartWriter, Resuming, Segment, Worker};
 use mtrecover::records::{self, Column, Format};
 use mtrecover::Store;
 
@@ -265,4 +265,27 @@ fn the_number_of_each_known_checkpoint_is_no_greater() {
     assert_eq!(store.report().checkpoint, Some(5));
     assert_eq!(Keeper::resume(&store, 4, 9).err(), Some(KeeperError::NotLawful));
     assert!(Keeper::resume(&store, 5, 9).is_ok());
+}
+
+#[test]
+fn the_keys_of_a_part_rise() {
+    let (mut keeper, log, mut file) = keeper();
+    let stamp = put(&mut keeper, &log, "a");
+    let checkpoint = keeper.begin_checkpoint().unwrap();
+    let mut part = PartWriter::begin(9, &checkpoint, 0, 1).unwrap();
+    part.entry(stamp, b"a", &[Column::new(0, b"v")]).unwrap();
+    assert_eq!(part.entry(stamp, b"a", &[Column::new(0, b"v")]), Err(KeeperError::NotLawful));
+    assert_eq!(part.entry(stamp, b"", &[Column::new(0, b"v")]), Err(KeeperError::NotLawful));
+    let end = keeper.end_checkpoint().unwrap();
+    assert_eq!(part.end(checkpoint.begin - 1), Err(KeeperError::NotLawful));
+    part.end(end).unwrap();
+    let mut buffer = Buffer::new();
+    let bytes = part.take(&mut buffer).unwrap();
+    sync(&mut keeper, &log, &mut file);
+    let store = mtrecover::recover(&[&file], &[bytes]).unwrap();
+    assert_eq!(store.report().entries, 1);
+
+    let mut next = PartWriter::begin_above(10, &checkpoint, 1, 2, b"a").unwrap();
+    assert_eq!(next.entry(stamp, b"a", &[Column::new(0, b"v")]), Err(KeeperError::NotLawful));
+    next.entry(stamp, b"b", &[Column::new(0, b"v")]).unwrap();
 }

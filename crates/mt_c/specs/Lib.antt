@@ -8,6 +8,7 @@ pub mod Flat
 pub mod Formats
 pub mod Fronts
 pub mod Owning
+pub mod PartWriting
 pub mod Holding
 pub mod Jobs
 pub mod Keepers

@@ -7,6 +7,7 @@ use crate::loan::Loan;
 use crate::task::Worker;
 use mt_keeper::{First, Keeper, Restart};
 use mt_recover::{Hit, Recovered};
+use mt_writer::PartWriter;
 use std::sync::Arc;
 
 /// A value that a place of C holds.
@@ -36,6 +37,8 @@ pub enum Held {
     Loan(Loan),
     /// A log that a keeper lent, for one thread.
     Borrower(Borrower),
-    /// Bytes that were taken of a log.
+    /// Bytes that were taken of a log or of a part.
     Bytes(Vec<u8>),
+    /// A part that is being written.
+    PartWriter(PartWriter),
 }

@@ -1,5 +1,5 @@
 //! Recovery by threads of C: a job hands out tasks, any thread does a task, and the job takes it back.
-ghost use Rattle.std.specs.Prelude.{◌≡◌, ◌≢◌, ◌<◌, ◌≤◌, ◌∷◌, [], List, None};
+ghost use Rattle.std.specs.Prelude.{◌≡◌, ◌≢◌, ◌<◌, ◌≤◌, ◌∷◌, [], List, None, Some, IfSome, IsNone};
 ghost use Rattle.mt_recover.specs.Fed.{Input};
 ghost use Rattle.mt_recover.specs.declared.workers.TheConstants.{MOST_WORKERS};
 ghost use Rattle.mt_c.specs.Holding.{HoldsAwaited, HoldsInputs, HoldsJob, HoldsJobOf, HoldsSomeInputs, HoldsStoreOf, HoldsWorker, Holds, IsAnyJob, IsAnyWorker, IsHired};
@@ -8,6 +8,7 @@ ghost use Rattle.mt_c.specs.Statuses.{IsOneOf, IsRefusedUnless};
 ghost use Rattle.mt_c.specs.Told.{IsTold};
 ghost use Rattle.mt_c.specs.declared.status.TheConstants.{DONE, MEMORY, WRONG, ABSENT, FAULT};
 ghost use Rattle.mt_c.specs.declared.task.Worker.{Worker as WorkerValue};
+ghost use Rattle.mt_c.specs.declared.held.Held.TheVariants as held;
 
 use crate::fault::CFault;
 use crate::held::Held;
@@ -148,10 +149,13 @@ pub extern "C" fn mtr_replay(alloc: Global, job: &mut Place) -> u32
     ensures certain { IsOneOf (DONE ∷ MEMORY ∷ WRONG ∷ []) result }
     ensures refused { IsRefusedUnless (HoldsJob CanReplay job.old.handle.value) result }
 {
-    let Some(Held::Job(ready)) = job.take_if(
-        alloc,
-        |held| matches!(held, Held::Job(ready) if ready.can_replay()),
-    ) else {
+    let Some(Held::Job(waiting)) = job.held() else {
+        return WRONG;
+    };
+    if !waiting.can_replay() {
+        return WRONG;
+    }
+    let Some(ready) = take_job(alloc, job) else {
         return WRONG;
     };
     match ready.replay(alloc) {
@@ -170,14 +174,30 @@ pub extern "C" fn mtr_assemble(alloc: Global, job: &mut Place) -> u32
     ensures certain { IsOneOf (DONE ∷ MEMORY ∷ WRONG ∷ []) result }
     ensures refused { IsRefusedUnless (HoldsJob CanFinish job.old.handle.value) result }
 {
-    let Some(Held::Job(ready)) = job.take_if(
-        alloc,
-        |held| matches!(held, Held::Job(ready) if ready.can_finish()),
-    ) else {
+    let Some(Held::Job(waiting)) = job.held() else {
+        return WRONG;
+    };
+    if !waiting.can_finish() {
+        return WRONG;
+    }
+    let Some(ready) = take_job(alloc, job) else {
         return WRONG;
     };
     let Ok(recovered) = ready.finish(alloc) else {
         return MEMORY;
     };
     begin_store(alloc, job, recovered)
+}
+
+/// Takes the job out of the place, and leaves it empty. None: the place holds no job, and is as before.
+fn take_job(alloc: Global, place: &mut Place) -> Option<Job>
+    ensures taken { IfSome result (λ job. place.old.handle.value ≡ Some (held.Job job)) }
+    ensures empty { IfSome result (λ job. place.new.handle.value ≡ None) }
+    ensures kept { IsNone result → place.new.handle.value ≡ place.old.handle.value }
+    ensures refused { IsNone result → Holds IsAnyJob place.old.handle.value → ⊥ }
+{
+    match place.take_if(alloc, |held| matches!(held, Held::Job(_))) {
+        Some(Held::Job(job)) => Some(job),
+        _ => None,
+    }
 }

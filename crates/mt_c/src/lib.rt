@@ -37,6 +37,7 @@ mod keeping;
 mod lent;
 mod loan;
 mod parts;
+mod partwriting;
 mod place;
 mod querying;
 mod ranging;

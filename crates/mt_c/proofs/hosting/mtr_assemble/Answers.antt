@@ -1,12 +1,10 @@
-use Rattle.std.proofs.Common.{◌≡◌, Some}
+use Rattle.std.proofs.Common.{◌≡◌, Some, sym, ◌∙◌}
 use Rattle.mt_c.specs.declared.held.Held.TheVariants as held
 use Rattle.mt_c.proofs.hosting.mtr_assemble.Goals as goal
 
 pub returns-clause-done : goal.returns-clause-done
 returns-clause-done c = λ logs parts holds done.
-    let taken = c.in-Some-Job.ensures.taken.0 in
-    let kind = c.in-Some-Job.field-0-is in
-    let was : c.args.job.now.handle.value ≡ Some (held.Job c.in-Some-Job.ready) = cc in record {
+    let was : c.args.job.now.handle.value ≡ Some (held.Job c.in-Some.ready) = sym c.held.follows.holds-at-none ∙ c.in-Some.ensures.taken in record {
       log_bytes = holds.log_bytes;
       logs_are = holds.logs_are;
       part_bytes = holds.part_bytes;

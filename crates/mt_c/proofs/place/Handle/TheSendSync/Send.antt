@@ -27,6 +27,7 @@ use Rattle.mt_recover.specs.contracts.replaying.Base as common
 use Rattle.mt_recover.specs.contracts.replaying.ReplayTask as replay
 use Rattle.mt_recover.specs.contracts.replaying.Replaying as replaying
 use Rattle.mt_recover.proofs.Sending.{replayed_send}
+use Rattle.mt_writer.proofs.part_writer.PartWriter.TheSendSync as part_writer
 use Rattle.mt_keeper.proofs.first.First.TheSendSync as first
 use Rattle.mt_keeper.proofs.resuming.Restart.TheSendSync as restart
 use Rattle.mt_keeper.proofs.keeper.Keeper.TheSendSync as keeper
@@ -135,7 +136,10 @@ held_send = variants_send held.enum (
                         (borrower_send, tt),
                         (
                           (search (sendable, crosses) depth 20, tt),
-                          tt,
+                          (
+                            (part_writer.the_send, tt),
+                            tt,
+                          ),
                         ),
                       ),
                     ),
