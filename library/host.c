@@ -23,12 +23,12 @@
 #include <sys/stat.h>
 #include <unistd.h>
 
-/* NEW is room for the bytes of a new log, or for what a resume adds to one, beside a 1,024th of it; BUFFER for an entry and
- * the entries before it, and BLOCK for the blocks that are written at once. */
-enum { NAME = 32, NEW = 128, KEY = 4096, BUFFER = 1 << 23, BLOCK = BUFFER + 16 };
+/* NEW is room for the bytes of a new log, or for what a resume adds to one, beside a 1,024th of it. */
+enum { NAME = 32, NEW = 128 };
 
-/* A block of a part has at most so many bytes of entries, or one entry, so that damage costs few of them. */
-enum { ENTRIES = 4096, WRITTEN_AT_ONCE = 1 << 20 };
+/* Entries of a part are written once they have about WRITTEN_AT_ONCE bytes. An entry has ENTRY bytes beside its key and its
+ * columns, and a column COLUMN bytes beside its value. */
+enum { WRITTEN_AT_ONCE = 1 << 18, ENTRY = 19, COLUMN = 3 };
 
 /* A log runs at most so many takes ahead of what is acknowledged. Each take ends with a mark: so a crash leaves no more marks
  * of a log at or past the cutoff, and a start takes more of them for a loss. */
@@ -81,13 +81,9 @@ struct mtr_host {
 
 struct mtr_host_part {
     int file;
-    uint32_t mark;   /* of the file */
     bool has_failed; /* an entry is not written */
-    uint32_t entries;
-    size_t key_length; /* of the last entry's key */
-    size_t length;     /* of what follows in the next block */
-    size_t sealed;     /* of the blocks that are not written yet */
-    uint8_t key[KEY], bytes[BUFFER], blocks[BLOCK];
+    size_t waiting;  /* about so many bytes of entries are not written yet */
+    mtr_place writer, buffer;
 };
 
 /* Says what failed. Returns false. */
@@ -282,47 +278,24 @@ static void *write_log(void *given) {
 
 /* ---- Checkpoints ---- */
 
-/* Writes the blocks that are sealed. */
-static bool write_blocks(mtr_host_part *part) {
-    size_t count = part->sealed;
-    part->sealed = 0;
-    return did(write_all(part->file, part->blocks, count), "a part");
+/* Writes what the part has ready for its file. */
+static bool write_ready(mtr_host_part *part) {
+    mtr_lent lent;
+    part->waiting = 0;
+    return is_done(mtr_part_take(&part->writer, &part->buffer, &lent), "a part") &&
+           did(write_all(part->file, lent.at, lent.length), "a part");
 }
 
-/* Seals a block of the first `length` bytes. */
-static bool seal(mtr_host_part *part, size_t length) {
-    size_t count = 0;
-    if (part->sealed >= WRITTEN_AT_ONCE || part->sealed + length + 16 > BLOCK)
-        if (!write_blocks(part))
-            return false;
-    if (!is_done(mtr_seal(part->mark, part->bytes, length, part->blocks + part->sealed, BLOCK - part->sealed, &count), "a part"))
-        return false;
-    part->sealed += count;
-    part->length -= length;
-    memmove(part->bytes, part->bytes + length, part->length);
-    return true;
-}
-
-/* Whether the key is above that of the last entry. */
-static bool rises(const mtr_host_part *part, const uint8_t *key, size_t length) {
-    int order = memcmp(part->key, key, part->key_length < length ? part->key_length : length);
-    return part->entries == 0 || order < 0 || (order == 0 && part->key_length < length);
-}
-
-/* Appends an entry, which begins the next block if it has no room in this one. */
+/* Appends an entry. */
 static bool append_entry(mtr_host_part *part, uint64_t version, const uint8_t *key, size_t key_length, const mtr_column *columns,
                          size_t column_count) {
-    size_t count = 0, before = part->length;
-    if (key_length > KEY || !rises(part, key, key_length))
-        return says("an entry", "its key is not above the last one, or too long");
-    if (part->entries == UINT32_MAX ||
-        !is_done(mtr_entry(2, version, key, key_length, columns, column_count, part->bytes + before, BUFFER - before, &count),
-                 "an entry"))
-        return false;
-    memcpy(part->key, key, part->key_length = key_length);
-    part->length += count;
-    part->entries++;
-    return before == 0 || part->length <= ENTRIES || seal(part, before);
+    uint32_t status = mtr_part_entry(&part->writer, version, key, key_length, columns, column_count);
+    if (status == MTR_WRONG)
+        return says("an entry", "its key is not above the last one, or no part may have it");
+    part->waiting += ENTRY + key_length;
+    for (size_t n = 0; n < column_count; n++)
+        part->waiting += COLUMN + columns[n].value.length;
+    return is_done(status, "an entry") && (part->waiting < WRITTEN_AT_ONCE || write_ready(part));
 }
 
 bool mtr_host_entry(mtr_host_part *part, uint64_t version, const uint8_t *key, size_t key_length, const mtr_column *columns,
@@ -332,38 +305,29 @@ bool mtr_host_entry(mtr_host_part *part, uint64_t version, const uint8_t *key, s
     return !part->has_failed;
 }
 
-/* Reads all keys into the part, between its header and its footer. */
+/* Reads all keys into the part, and ends it. */
 static bool write_part(mtr_host *host, mtr_host_part *part, uint32_t number, uint64_t begin, uint64_t *end) {
-    size_t count = 0;
     uint64_t salt = 0;
-    if (!draw(&salt) ||
-        !is_done(mtr_part_header_4(salt, number, begin, 0, 1, part->blocks, BLOCK, &part->sealed, &part->mark), "a part") ||
+    if (!draw(&salt) || !is_done(mtr_part_begin(&part->writer, salt, number, begin, 0, 1), "a part") ||
         !host->settings.entries(host->settings.server, part) || part->has_failed)
         return false;
     pthread_mutex_lock(&host->lock);
     uint32_t status = mtr_checkpoint_end(&host->keeper, end);
     pthread_mutex_unlock(&host->lock);
-    if (!is_done(status, "a checkpoint") ||
-        !is_done(mtr_part_footer(*end, part->entries, part->bytes + part->length, BUFFER - part->length, &count), "a part"))
-        return false;
-    part->length += count;
-    return seal(part, part->length) && write_blocks(part);
+    return is_done(status, "a checkpoint") && is_done(mtr_part_end(&part->writer, *end), "a part") && write_ready(part);
 }
 
 /* Writes the part of a checkpoint to the file NAME.new. Returns it open, or -1, and then it is gone. */
 static int make_part(mtr_host *host, const char *name, uint32_t number, uint64_t begin, uint64_t *end) {
-    mtr_host_part *part = calloc(1, sizeof *part);
-    int file = part != NULL ? create(host, name) : -1;
-    if (did(file >= 0, name)) {
-        part->file = file;
-        if (!write_part(host, part, number, begin, end)) {
-            close(file);
-            discard(host, name);
-            file = -1;
-        }
+    mtr_host_part part = {.file = create(host, name)};
+    if (did(part.file >= 0, name) && !write_part(host, &part, number, begin, end)) {
+        close(part.file);
+        discard(host, name);
+        part.file = -1;
     }
-    free(part);
-    return file;
+    mtr_free(&part.writer);
+    mtr_free(&part.buffer);
+    return part.file;
 }
 
 /* Deletes a file while the lock is free. */

@@ -156,6 +156,12 @@ impl<'a> Column<'a> {
     pub fn new(number: u8, value: &'a [u8]) -> Column<'a> {
         Column { number, at: value.as_ptr(), length: value.len(), value: PhantomData }
     }
+
+    /// The length of its value.
+    #[cfg(feature = "host")]
+    pub(crate) fn length(&self) -> usize {
+        self.length
+    }
 }
 
 // The crate does without some of them.

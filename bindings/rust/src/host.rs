@@ -31,8 +31,8 @@ use std::path::PathBuf;
 use std::sync::{Condvar, Mutex, MutexGuard};
 use std::thread::{self, JoinHandle, Thread};
 
-use crate::keeper::{Buffer, Checkpoint, Keeper, KeeperError, Log, NewLog, Resuming, Segment};
-use crate::records::{self, Column, Format, Mark, Resumed};
+use crate::keeper::{Buffer, Checkpoint, Keeper, KeeperError, Log, NewLog, PartWriter, Resuming, Segment};
+use crate::records::{self, Column, Resumed};
 use crate::{Feed, Inputs, OutOfMemory, Report, Store};
 
 /// What a host works on.
@@ -87,11 +87,14 @@ impl<T, E: Display> Of<T> for Result<T, E> {
 
 // ---- Files ----
 
-/// A block of a part has at most this many bytes of entries, or one entry, so that damage costs few of them.
-const BLOCK: usize = 4096;
+/// Entries of a part are written once they have about this many bytes.
+const WRITTEN_AT_ONCE: usize = 1 << 18;
 
-/// Blocks of a part are written once they have this many bytes.
-const WRITTEN_AT_ONCE: usize = 1 << 20;
+/// The bytes of an entry beside its key and its columns.
+const ENTRY: usize = 19;
+
+/// The bytes of a column beside its value.
+const COLUMN: usize = 3;
 
 /// A log runs at most this many takes ahead of what is acknowledged. Each take ends with a mark: so a crash leaves no more
 /// marks of a log at or past the cutoff, and a start takes more of them for a loss.
@@ -790,15 +793,10 @@ impl Shared {
 #[derive(Debug)]
 pub struct Part {
     file: File,
-    /// Of the file.
-    mark: Mark,
-    entries: u32,
-    /// The key of the last entry.
-    key: Vec<u8>,
-    /// What follows in the next block.
-    bytes: Vec<u8>,
-    /// Blocks that are not written yet.
-    blocks: Vec<u8>,
+    writer: PartWriter,
+    buffer: Buffer,
+    /// About this many bytes of entries are not written yet.
+    waiting: usize,
     /// Whether an entry was not written.
     is_lost: bool,
 }
@@ -813,37 +811,25 @@ impl Part {
         written
     }
 
-    /// Appends an entry, which begins the next block if it has no room in this one.
     fn append(&mut self, version: u64, key: &[u8], columns: &[Column]) -> Result<(), HostError> {
-        if self.entries > 0 && key <= &*self.key {
-            return Err(HostError::new("an entry", "its key is not above the last one"));
+        let appended = self.writer.entry(version, key, columns);
+        if appended == Err(KeeperError::NotLawful) {
+            return Err(HostError::new("an entry", "its key is not above the last one, or no part may have it"));
         }
-        let before = self.bytes.len();
-        records::entry(&mut self.bytes, Format::Two, version, key, columns).of("an entry")?;
-        self.entries = self.entries.checked_add(1).ok_or("too many").of("entries")?;
-        self.key.clear();
-        self.key.extend_from_slice(key);
-        if before > 0 && self.bytes.len() > BLOCK {
-            self.seal(before)?;
-        }
-        Ok(())
-    }
-
-    /// Seals a block of the first `length` bytes.
-    fn seal(&mut self, length: usize) -> Result<(), HostError> {
-        records::seal(&mut self.blocks, self.mark, &self.bytes[..length]).of("a part")?;
-        self.bytes.drain(..length);
-        if self.blocks.len() >= WRITTEN_AT_ONCE {
+        appended.of("an entry")?;
+        let values: usize = columns.iter().map(|column| COLUMN + column.length()).sum();
+        self.waiting += ENTRY + key.len() + values;
+        if self.waiting >= WRITTEN_AT_ONCE {
             self.write()?;
         }
         Ok(())
     }
 
-    /// Writes the blocks that are sealed.
+    /// Writes what the part has ready for its file.
     fn write(&mut self) -> Result<(), HostError> {
-        self.file.write_all(&self.blocks).of("a part")?;
-        self.blocks.clear();
-        Ok(())
+        self.waiting = 0;
+        let taken = self.writer.take(&mut self.buffer).of("a part")?;
+        self.file.write_all(taken).of("a part")
     }
 }
 
@@ -888,17 +874,15 @@ impl Shared {
         checkpoint: Checkpoint,
         entries: &mut impl FnMut(&mut Part) -> Result<(), HostError>,
     ) -> Result<(File, u64), HostError> {
-        let (file, mut blocks) = (self.folder.create(name)?, Vec::new());
-        let Checkpoint { number, begin } = checkpoint;
-        let mark = records::part_header_4(&mut blocks, salt(), number, begin, 0, 1).of("a part")?;
-        let mut part = Part { file, mark, entries: 0, key: Vec::new(), bytes: Vec::new(), blocks, is_lost: false };
+        let file = self.folder.create(name)?;
+        let writer = PartWriter::begin(salt(), &checkpoint, 0, 1).of("a part")?;
+        let mut part = Part { file, writer, buffer: Buffer::new(), waiting: 0, is_lost: false };
         entries(&mut part)?;
         if part.is_lost {
             return Err(HostError::new(name, "lacks an entry"));
         }
         let end = self.lock().keeper.end_checkpoint().of("a checkpoint")?;
-        records::part_footer(&mut part.bytes, end, part.entries).of("a part")?;
-        part.seal(part.bytes.len())?;
+        part.writer.end(end).of("a part")?;
         part.write()?;
         Ok((part.file, end))
     }

@@ -126,8 +126,8 @@ pub struct Checkpoint {
 }
 
 /// Writes a part of a checkpoint, in format 4. It keeps the part's rules: keys rise, entries are lawful, and the footer has
-/// their number. It owns no file: it gives the bytes. If a call is refused, give the checkpoint up ([`Keeper::abandon`]), and
-/// delete nothing for it.
+/// their number. It owns no file: it gives the bytes. If a call is refused, give the checkpoint up
+/// ([`Keeper::abandon_checkpoint`]), and delete nothing for it.
 ///
 /// ```
 /// # use mtrecover::keeper::{Buffer, Checkpoint, KeeperError, PartWriter};
