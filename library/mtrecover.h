@@ -316,7 +316,7 @@ uint32_t mtr_log_created(mtr_place *keeper, size_t log);
 
 /* Appends a put, a remove or an erase. DONE: *stamp is its timestamp and its version, above all stamps before. So call it
  * while no other update of the key is made. WRONG: also if no log of format 2 has the record. FULL: rotate the log. EARLY:
- * the log holds more than 4,190,052 bytes that were not taken: take, write and sync them first. */
+ * the log holds records, and with this one they would be more than 32,768 bytes: take, write and sync them first. */
 uint32_t mtr_log_put(mtr_place *keeper, size_t log, const uint8_t *key, size_t key_length, const mtr_column *columns,
                      size_t column_count, uint64_t *stamp);
 uint32_t mtr_log_remove(mtr_place *keeper, size_t log, const uint8_t *key, size_t key_length, uint64_t *stamp);
@@ -334,7 +334,7 @@ typedef struct mtr_lent {
 } mtr_lent;
 
 /* Takes all that was appended to the log since the last call, to be appended to its file by one write, and synced: of a file
- * of format 4 one block. Let no log run more than 16 takes ahead: wait while the mark of the take 16 takes ago is not below
+ * of format 4 one block, of at most 32,768 bytes of records or one longer record. Let no log run more than 16 takes ahead: wait while the mark of the take 16 takes ago is not below
  * what mtr_keeper_acknowledged tells. Starts refuse a log with more than 16 marks at or past the cutoff. From then on `buffer` holds these bytes. EARLY: those of the last call are not synced. WRONG: also
  * if `buffer` is not empty and holds no bytes. If it is empty, MEMORY may come before a WRONG of the log. */
 uint32_t mtr_log_take(mtr_place *keeper, size_t log, mtr_place *buffer, mtr_lent *lent);

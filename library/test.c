@@ -911,21 +911,25 @@ static void test_part_memory(void) {
     expect("all is freed", blocks == 0);
 }
 
-/* A log that holds more than a block has room for takes no record until they are taken. */
+/* A log takes no record that would make its block larger than 32,768 bytes until those it holds are taken. A put of one column
+ * has 31 bytes, its key and its value, a mark 17. */
 static void test_early(void) {
     static const uint8_t value[65535];
     mtr_place keeper = example_keeper(), buffer = {0};
     mtr_lent lent = {NULL, 0};
-    mtr_column columns[63];
+    mtr_column column = {0, {value, 16384 - 32}}, long_column = {0, {value, sizeof value}};
     uint64_t stamp = 0;
-    unsigned i, puts = 0;
-    for (i = 0; i < 63; i++) columns[i] = (mtr_column){(uint8_t)i, {value, sizeof value}};
-    while (puts < 9 && mtr_log_put(&keeper, 0, text("a"), 1, columns, 63, &stamp) == MTR_DONE) puts++;
-    expect("two long records", puts == 2 && stamp == 3);
-    expect("a put is early", mtr_log_put(&keeper, 0, text("a"), 1, columns, 1, &stamp) == MTR_EARLY && stamp == 3);
-    expect("so is a mark", mtr_log_mark(&keeper, 0) == MTR_EARLY);
-    expect("a block of both", mtr_log_take(&keeper, 0, &buffer, &lent) == MTR_DONE && lent.length > 2 * 63 * sizeof value);
-    expect("then it takes one", mtr_log_mark(&keeper, 0) == MTR_DONE);
+    expect("half a block", mtr_log_put(&keeper, 0, text("a"), 1, &column, 1, &stamp) == MTR_DONE && stamp == 2);
+    column.value.length++;
+    expect("a byte too many", mtr_log_put(&keeper, 0, text("a"), 1, &column, 1, &stamp) == MTR_EARLY && stamp == 2);
+    column.value.length--;
+    expect("the other half", mtr_log_put(&keeper, 0, text("a"), 1, &column, 1, &stamp) == MTR_DONE && stamp == 3);
+    expect("a mark is early", mtr_log_mark(&keeper, 0) == MTR_EARLY);
+    expect("a block of both", mtr_log_take(&keeper, 0, &buffer, &lent) == MTR_DONE && lent.length == 32768 + 16);
+    expect("a long record alone", mtr_log_put(&keeper, 0, text("a"), 1, &long_column, 1, &stamp) == MTR_DONE && stamp == 4);
+    expect("nothing stands with it", mtr_log_mark(&keeper, 0) == MTR_EARLY && mtr_log_synced(&keeper, 0) == MTR_DONE);
+    expect("it is a block", mtr_log_take(&keeper, 0, &buffer, &lent) == MTR_DONE && lent.length == 32 + sizeof value + 16);
+    expect("then a mark", mtr_log_mark(&keeper, 0) == MTR_DONE);
     mtr_free(&buffer);
     mtr_free(&keeper);
     expect("all is freed", blocks == 0);

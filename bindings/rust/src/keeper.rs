@@ -270,8 +270,8 @@ impl Keeper {
     }
 
     /// Appends a put of these columns, whose numbers rise. Returns its timestamp, which is its version too, above all stamps
-    /// before. So call it while no other update of the key is made. `Early`: the log holds more than 4,190,052 bytes that
-    /// were not taken; take, write and sync them first.
+    /// before. So call it while no other update of the key is made. `Early`: the log holds records, and with this one they
+    /// would be more than 32,768 bytes; take, write and sync them first.
     pub fn put(&mut self, log: &Log, key: &[u8], columns: &[Column]) -> Result<u64, KeeperError> {
         let (length, n) = (key.len(), columns.len());
         // SAFETY: slices are lent for the call, and the place holds a keeper.

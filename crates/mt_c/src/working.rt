@@ -3,6 +3,7 @@ ghost use Rattle.std.specs.Prelude.{◌≡◌, ◌≢◌, ◌⊎◌, ◌++◌, �
 ghost use Rattle.mt_words.specs.declared.update.Kind.TheVariants as kinds;
 ghost use Rattle.mt_record.specs.Given.{column_of};
 ghost use Rattle.mt_record.specs.Spelling.{spelling};
+ghost use Rattle.mt_record.specs.Runs.{IsSmall};
 ghost use Rattle.mt_writer.specs.Framing.{framed};
 ghost use Rattle.mt_writer.specs.Journals.{Journal, Keeps};
 ghost use Rattle.mt_keeper.specs.Crews.{CrewView, Deed, wrote, spent, marked, took, synced, looked, asked};
@@ -141,6 +142,7 @@ pub extern "C" fn mtr_worker_take(
         HoldsDeeds crew number (deeds ++ took ∷ []) worker.new.handle.value }
     ensures bytes { (b : BorrowerView) (j : Journal) → HoldsBorrower (λ held. held ≡ b) worker.old.handle.value → Keeps b.log.writer j → result ≡ DONE →
         HoldsLent lent.new (λ bytes. bytes ≡ framed b.log.writer.mark (flat_map spelling j.held)) buffer.new.handle.value }
+    ensures small { (b : BorrowerView) (j : Journal) → HoldsBorrower (λ held. held ≡ b) worker.old.handle.value → Keeps b.log.writer j → result ≡ DONE → IsSmall (flat_map spelling j.held) }
     ensures kept { result ≢ DONE → (worker.new.handle.value ≡ worker.old.handle.value) × (buffer.new.handle.value ≡ buffer.old.handle.value) }
     ensures untold { result ≢ DONE → lent.new ≡ lent.old }
     ensures why { (b : BorrowerView) → HoldsBorrower (λ held. held ≡ b) worker.old.handle.value → HoldsSomeBytes buffer.old.handle.value → result ≢ DONE → result ≢ MEMORY →

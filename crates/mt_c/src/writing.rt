@@ -4,6 +4,7 @@ ghost use Rattle.mt_words.specs.Built.{mark_of, put_of, remove_of, erase_of};
 ghost use Rattle.mt_words.specs.declared.update.Kind.TheVariants as kinds;
 ghost use Rattle.mt_record.specs.Given.{column_of};
 ghost use Rattle.mt_record.specs.Spelling.{spelling};
+ghost use Rattle.mt_record.specs.Runs.{IsSmall};
 ghost use Rattle.mt_writer.specs.Framing.{framed};
 ghost use Rattle.mt_writer.specs.Journals.{Journal, Writer};
 ghost use Rattle.mt_laws.specs.Writing.{writing, Server};
@@ -139,8 +140,8 @@ pub extern "C" fn mtr_log_mark(keeper: &mut Place, log: usize) -> u32
     }
 }
 
-/// Takes all that was appended to the log since the last call, to be appended to its file by one write. `buffer`, which is
-/// empty or holds earlier bytes, holds these from then on, and they are lent. `EARLY`: the earlier ones are not synced.
+/// Takes all that was appended to the log since the last call, to be appended to its file by one write: a small block.
+/// `buffer`, which is empty or holds earlier bytes, holds these from then on, and they are lent. `EARLY`: the earlier ones are not synced.
 /// `WRONG`: also if `buffer` holds something else.
 #[unsafe(no_mangle)]
 pub extern "C" fn mtr_log_take(
@@ -154,6 +155,7 @@ pub extern "C" fn mtr_log_take(
     ensures bytes { (s : Server) (k : Keeping) (j : Journal) (w : Writer) → HoldsServer s keeper.old.handle.value → HoldsKeeper (λ held. held ≡ k) keeper.old.handle.value →
         slice_get (numbered s) log ≡ Some (writing j) → IsAt k log (Writing w) → result ≡ DONE →
         HoldsLent lent.new (λ bytes. bytes ≡ framed w.mark (flat_map spelling j.held)) buffer.new.handle.value }
+    ensures small { (s : Server) (j : Journal) → HoldsServer s keeper.old.handle.value → slice_get (numbered s) log ≡ Some (writing j) → result ≡ DONE → IsSmall (flat_map spelling j.held) }
     ensures kept { result ≢ DONE → (keeper.new.handle.value ≡ keeper.old.handle.value) × (buffer.new.handle.value ≡ buffer.old.handle.value) }
     ensures untold { result ≢ DONE → lent.new ≡ lent.old }
     ensures why { (s : Server) → HoldsServer s keeper.old.handle.value → HoldsSomeBytes buffer.old.handle.value → result ≢ DONE → result ≢ MEMORY →

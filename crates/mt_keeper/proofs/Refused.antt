@@ -5,13 +5,12 @@ use Rattle.std.proofs.lemmas.Option.{same_Some}
 use Rattle.mt_words.specs.declared.record.Change.{Change}
 use Rattle.mt_writer.specs.declared.writer_fault.WriterFault.{WriterFault}
 use Rattle.mt_writer.specs.Journals.{Writer}
-use Rattle.mt_writer.specs.Refusing.{HasEnded, IsRefused, IsUnlawful}
 use Rattle.mt_keeper.specs.declared.keeper.Stage.{Stage}
 use Rattle.mt_keeper.specs.declared.keeper.Stage.TheVariants.{Writing}
 use Rattle.mt_keeper.specs.declared.keeper.Log.{Log}
 use Rattle.mt_keeper.specs.declared.keeper_fault.KeeperFault.TheVariants as faults
 use Rattle.mt_keeper.specs.Keeping.{Keeping}
-use Rattle.mt_keeper.specs.Refusals.{IsAt, IsNotWritten, HasRefused, NoMark}
+use Rattle.mt_keeper.specs.Refusals.{IsAt, IsNotWritten, HasRefused, NoMark, NoChange}
 
 -- a log in another stage is not in this one
 pub not_in : (keeper : Keeping) (number : ℕ) (x : Log) (stage : Stage) → slice_get keeper.logs number ≡ Some x → (x.stage ≡ stage → ⊥) → IsAt keeper number stage → ⊥
@@ -31,8 +30,8 @@ refused inside keeper number x w Refuses reason is stands stage refuses =
 
 -- why a change is refused at this time
 pub refused_at : (version stamp : ℕ) (change : ℕ → Change) (w : Writer) (reason : WriterFault) → version ≡ stamp
-    → IsRefused w (HasEnded w version) reason ⊎ IsUnlawful (change version) reason → IsRefused w (HasEnded w stamp) reason ⊎ IsUnlawful (change stamp) reason
-refused_at version stamp change w reason is why = subst (λ (v : ℕ). IsRefused w (HasEnded w v) reason ⊎ IsUnlawful (change v) reason) is why
+    → NoChange version (change version) w reason → NoChange stamp (change stamp) w reason
+refused_at version stamp change w reason is why = subst (λ (v : ℕ). NoChange v (change v) w reason) is why
 
 pub refused_mark_at : (version stamp : ℕ) (w : Writer) (reason : WriterFault) → version ≡ stamp → NoMark version w reason → NoMark stamp w reason
 refused_mark_at version stamp w reason is why = subst (λ (v : ℕ). NoMark v w reason) is why

@@ -1,6 +1,8 @@
 -- When a keeper refuses a call.
-use Rattle.std.specs.Prelude.{◌≡◌, ℕ, suc, ◌+◌, ◌≤◌, ◌⊎◌, ◌^◌, ◌%◌, ◌++◌, Option, Some, None, [], ◌∷◌, ◌<◌, false, length, IsSome, IsTrue, slice_get}
+use Rattle.std.specs.Prelude.{◌≡◌, ℕ, suc, ◌+◌, ◌≤◌, ◌⊎◌, ◌^◌, ◌%◌, ◌++◌, Option, Some, None, [], ◌∷◌, ◌<◌, false, length, max, IsSome, IsTrue, slice_get}
 use Rattle.mt_words.specs.declared.record.Change.{Change}
+use Rattle.mt_words.specs.Changes.{changed}
+use Rattle.mt_words.specs.Built.{mark_of}
 use Rattle.mt_shared.specs.declared.known.Act.{Act}
 use Rattle.mt_shared.specs.Words.{act}
 use Rattle.mt_record.specs.declared.feed.head.Segment.{Segment}
@@ -51,11 +53,11 @@ TakesNot keeper number Refuses fault = HasFailed keeper fault ⊎ (HasNoStamp ke
 
 -- the writer takes no mark at this time
 abbrev pub NoMark : ℕ → Writer → WriterFault → Type 0
-NoMark time w reason = IsRefused w (HasEnded w time) reason
+NoMark time w reason = IsRefused w (HasEnded w time) (mark_of (max w.last time)) reason
 
 -- the writer takes no such change at this time
 abbrev pub NoChange : ℕ → Change → Writer → WriterFault → Type 0
-NoChange time change w reason = NoMark time w reason ⊎ IsUnlawful change reason
+NoChange time change w reason = IsRefused w (HasEnded w time) (changed (max w.last time) change) reason ⊎ IsUnlawful change reason
 
 -- a write of the log was not told to be synced
 abbrev pub IsInFlight : Server → (number : ℕ) → KeeperFault → Type 0

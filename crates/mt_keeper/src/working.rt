@@ -6,6 +6,7 @@ ghost use Rattle.mt_record.specs.Given.{column_of, kind_of};
 ghost use Rattle.mt_writer.specs.declared.writer_fault.WriterFault.TheVariants.{Failed};
 ghost use Rattle.std.specs.Prelude.{length, replicate, flat_map};
 ghost use Rattle.mt_record.specs.Spelling.{spelling};
+ghost use Rattle.mt_record.specs.Runs.{IsSmall};
 ghost use Rattle.mt_writer.specs.Framing.{framed};
 ghost use Rattle.mt_writer.specs.Journals.{Journal, Keeps, IsFileOf, taking};
 ghost use Rattle.mt_keeper.specs.Crews.{Deed, wrote, spent, marked, took, synced, looked, asked, HasDone};
@@ -84,13 +85,14 @@ impl Crew {
         Ok(())
     }
 
-    /// Takes the bytes to be appended to the log's file, as one write. Its writer goes on with `spare`, emptied. Err: no
-    /// bytes are taken. `Early`: `synced` was not called for the write before it.
+    /// Takes the bytes to be appended to the log's file, as one write: a small block. Its writer goes on with `spare`,
+    /// emptied. Err: no bytes are taken. `Early`: `synced` was not called for the write before it.
     pub fn take(&self, log: &mut LentLog, spare: Vec<u8>) -> Result<Vec<u8>, KeeperFault>
         requires { log.old.table ≡ self.now.table }
         ensures ok { (deeds : List Deed) → HasDone self.now.before log.old deeds → OnOk result (HasDone self.now.before log.new (deeds ++ took ∷ [])) }
         ensures bytes { (j : Journal) → Keeps log.old.writer j → IfOk result (λ bytes. bytes.items ≡ framed log.old.writer.mark (flat_map spelling j.held)) }
         ensures file { (j : Journal) (file : List ℕ) → Keeps log.old.writer j → IsFileOf log.old.writer j file → IfOk result (λ bytes. IsFileOf log.new.writer (taking j) (file ++ bytes.items)) }
+        ensures small { (j : Journal) → Keeps log.old.writer j → OnOk result (IsSmall (flat_map spelling j.held)) }
         ensures err { OnErr result (log.new ≡ log.old) }
         ensures same { log.new.table ≡ log.old.table }
         ensures failed { log.old.failed ≡ true → (result ≡ Err (faults.Writer Failed)) × (log.new ≡ log.old) }

@@ -5,6 +5,7 @@ ghost use Rattle.mt_words.specs.Built.{mark_of, put_of, remove_of, erase_of};
 ghost use Rattle.mt_words.specs.declared.update.Kind.TheVariants as kinds;
 ghost use Rattle.mt_record.specs.Given.{column_of, kind_of};
 ghost use Rattle.mt_record.specs.Spelling.{spelling};
+ghost use Rattle.mt_record.specs.Runs.{IsSmall};
 ghost use Rattle.mt_record.specs.Resuming.{greatest_timestamp};
 ghost use Rattle.mt_writer.specs.Framing.{framed};
 ghost use Rattle.mt_writer.specs.Journals.{Journal, Writer, taking};
@@ -76,14 +77,15 @@ impl Keeper {
         Ok(())
     }
 
-    /// Takes the bytes to be appended to the log's file, as one write. Its writer goes on with `spare`, emptied. Err: no
-    /// bytes are taken. `Early`: `synced` was not called for the write before it.
+    /// Takes the bytes to be appended to the log's file, as one write: a small block. Its writer goes on with `spare`,
+    /// emptied. Err: no bytes are taken. `Early`: `synced` was not called for the write before it.
     pub fn take(&mut self, log: usize, spare: Vec<u8>) -> Result<Vec<u8>, KeeperFault>
         ensures step { (s : Server) → Holds self.old s → OnOk result (Steps s (with_taken s log) self.new) }
         ensures bytes { (s : Server) (j : Journal) (w : Writer) → Holds self.old s → slice_get (numbered s) log ≡ Some (writing j) → IsAt self.old log (Writing w) →
             IfOk result (λ bytes. bytes.items ≡ framed w.mark (flat_map spelling j.held)) }
         ensures file { (s : Server) (j : Journal) (file : List ℕ) → Holds self.old s → slice_get (numbered s) log ≡ Some (writing j) → HasFile self.old log j file →
             IfOk result (λ bytes. HasFile self.new log (taking j) (file ++ bytes.items)) }
+        ensures small { (s : Server) (j : Journal) → Holds self.old s → slice_get (numbered s) log ≡ Some (writing j) → OnOk result (IsSmall (flat_map spelling j.held)) }
         ensures err { OnErr result (self.new ≡ self.old) }
         ensures failed { self.old.failed ≡ true → result ≡ Err (faults.Writer Failed) }
         ensures fault { (s : Server) → Holds self.old s → IfErr result (λ fault. HasFailed self.old fault ⊎ (IsNotWritten self.old log fault ⊎ IsInFlight s log fault)) }

@@ -1,16 +1,16 @@
 -- The bytes of a file of records: of a new one, and after each write.
-use Rattle.std.proofs.Common.{◌≡◌, false, inl, inr, ℕ, ◌+◌, ◌-◌, ◌^◌, ◌<◌, ◌≤◌, Option, Some, None, IfSome, List, [], ◌∷◌, ◌++◌, length, refl, sym, ap, ◌∙◌, subst, append_assoc, arith}
+use Rattle.std.proofs.Common.{◌≡◌, ◌⊎◌, false, inl, inr, ℕ, ◌+◌, ◌-◌, ◌^◌, ◌<◌, ◌≤◌, Option, Some, None, IfSome, List, [], ◌∷◌, ◌++◌, length, refl, sym, ap, ◌∙◌, subst, append_assoc, arith}
 use Rattle.std.proofs.lemmas.List.{append-nil, length-append}
 use Rattle.std.proofs.lemmas.List.Concat.{flat_map-append}
 use Rattle.std.proofs.lemmas.List.Elements.{All-append, All-cons, All-nil}
-use Rattle.std.specs.List.{All, flat_map}
+use Rattle.std.specs.List.{flat_map}
 use Rattle.std.proofs.lemmas.Bool.{false≢true}
 use Rattle.mt_words.specs.Limits.{limits_of, widest}
 use Rattle.mt_words.specs.Built.{mark_of}
 use Rattle.mt_words.specs.Changes.{Logged, IsLawful}
-use Rattle.mt_block.specs.declared.block.TheConstants.{MOST_BODY, FRAME_BYTES}
+use Rattle.mt_block.specs.declared.block.TheConstants.{MOST_BODY, SMALL_BODY, FRAME_BYTES}
 use Rattle.mt_block.specs.declared.header.Header.{Header}
-use Rattle.mt_block.specs.Blocks.{IsHeader, header_bytes, mark_of as mark_in, block, blocks, IsBody, IsFile}
+use Rattle.mt_block.specs.Blocks.{header_bytes, mark_of as mark_in, block, blocks, IsBody, IsFile}
 use Rattle.mt_block.proofs.Heads.{same_split, block-length}
 use Rattle.mt_block.proofs.Headers.{are_big, both, same_size, same_header}
 use Rattle.mt_crc.specs.Crc.{AreBytes}
@@ -19,6 +19,7 @@ use Rattle.mt_record.specs.declared.feed.head.Head.{Head}
 use Rattle.mt_record.specs.declared.read.TheConstants.{MOST_BYTES}
 use Rattle.mt_record.specs.declared.front.LogFront.{LogFront}
 use Rattle.mt_record.specs.Spelling.{body, spelling}
+use Rattle.mt_record.specs.Runs.{IsSmall}
 use Rattle.mt_record.specs.Heads.{head_bytes}
 use Rattle.mt_record.specs.Heads.{IsHead}
 use Rattle.mt_record.specs.Opening.{text_head, joined, is_torn, Opens}
@@ -26,11 +27,9 @@ use Rattle.mt_record.specs.LogFronts.{IsRest, IsFrontOf}
 use Rattle.mt_record.specs.Logs.{log_bytes, latest}
 use Rattle.mt_record.proofs.OneLog.{same_head}
 use Rattle.mt_record.proofs.Opened.{header-length, header_sealed, plain_own}
-use Rattle.mt_writer.specs.declared.log_writer.TheConstants.{LONGEST_RECORD}
 use Rattle.mt_writer.specs.Refusing.{HasRoom}
-use Rattle.mt_writer.specs.Framing.{framed, frame_bytes, IsFileOfBlocks, IsFileWith, HasMark}
-use Rattle.mt_writer.specs.Files.{file_bytes}
-use Rattle.mt_writer.specs.Journals.{Journal, handed_out, records_of, file_of, read_back, taking, begun, MayGoOn, Writer, Keeps, IsFileOf, NewFile, Begins}
+use Rattle.mt_writer.specs.Framing.{framed, Buffer, frame_bytes, IsFileOfBlocks, IsFileWith, HasMark}
+use Rattle.mt_writer.specs.Journals.{Journal, handed_out, read_back, taking, begun, MayGoOn, Writer, Keeps, IsFileOf, NewFile, Begins}
 use Rattle.mt_writer.proofs.JournalLemmas.{more_bytes, spelled_length}
 
 -- ---- frames
@@ -45,13 +44,46 @@ frame_most None bytes = omega arith
 frame_most (Some mark) [] = omega arith
 frame_most (Some mark) (b ∷ bs) = omega arith
 
+-- a list without a length is empty
+empty : (bytes : List ℕ) → length bytes ≡ 0 → bytes ≡ []
+empty [] none = refl
+empty (b ∷ bs) none = absurd (omega (arith, none))
+
+-- what stayed behind records: these are none, or all have few bytes
+pub few_or_none : (before : ℕ) (new appended : Buffer) → new ≡ appended → (held : Buffer) → before ≡ length held.records → (before ≡ 0) ⊎ (length appended.records ≤ SMALL_BODY)
+    → (length held.records ≡ 0) ⊎ (length new.records ≤ SMALL_BODY)
+few_or_none before new appended same held is (inl none) = inl (sym is ∙ none)
+few_or_none before new appended same held is (inr few) = inr (omega (arith, few, ap (λ (b : Buffer). length b.records) same))
+
+-- held records and one more are small if they were none or have few bytes
+pub still_small : (r : Logged) (held bytes : List ℕ) → IsSmall held → bytes ≡ held ++ spelling r → (length held ≡ 0) ⊎ (length bytes ≤ SMALL_BODY) → IsSmall bytes
+still_small r held bytes was is (inl none) = record {
+  records = r ∷ [];
+  spelled = is ∙ ap (λ (l : List ℕ). l ++ spelling r) (empty held none) ∙ sym (append-nil (spelling r));
+  small = inr refl;
+}
+still_small r held bytes was is (inr few) = record {
+  records = was.records ++ r ∷ [];
+  spelled = is ∙ ap (λ (l : List ℕ). l ++ spelling r) was.spelled ∙ ap (λ (l : List ℕ). flat_map spelling was.records ++ l) (sym (append-nil (spelling r))) ∙ sym (flat_map-append spelling was.records (r ∷ []));
+  small = inl (omega (arith, few));
+}
+
 -- a record that there is room for fits into the file, and into a block
-pub still_fits : (w : Writer) (r : Logged) (bytes : List ℕ) → HasRoom w → IsLawful widest r → bytes ≡ w.buffer ++ spelling r
+pub still_fits : (w : Writer) (r : Logged) (bytes : List ℕ) → HasRoom w → IsLawful widest r → bytes ≡ w.buffer ++ spelling r → (length w.buffer ≡ 0) ⊎ (length bytes ≤ SMALL_BODY)
     → (w.size + (length bytes - length w.buffer) + w.frames + frame_bytes w.mark bytes ≤ MOST_BYTES) × (length bytes ≤ MOST_BODY)
-still_fits w r bytes room lawful is =
+still_fits w r bytes room lawful is few =
     let long = spelled_length r lawful in
-    let all = ap length is ∙ length-append w.buffer (spelling r) in
-    (omega (arith, room.file, long, all, frame_most w.mark bytes), omega (arith, room.block, long, all))
+    let all = ap length is ∙ length-append w.buffer (spelling r) in (
+      omega (arith, room, long, all, frame_most w.mark bytes),
+      elim few as (λ _. length bytes ≤ MOST_BODY) [
+        | inl none ↦ omega (arith, none, long, all)
+        | inr few ↦ omega (arith, few)
+      ],
+    )
+
+-- no records are small
+pub none_small : IsSmall []
+none_small = record { records = []; spelled = refl; small = inl (omega arith) }
 
 -- ---- files of blocks
 

@@ -1,8 +1,8 @@
 -- Records in a buffer, and the block that is made of them.
-use Rattle.std.proofs.Common.{◌≡◌, ℕ, ◌+◌, ◌^◌, ◌<◌, ◌≤◌, Option, Some, None, List, [], ◌∷◌, ◌++◌, length, take, drop, get_or, Vec, vec_len, vec_capacity, refl, sym, ap, ◌∙◌, subst, append_assoc, arith}
-use Rattle.std.proofs.lemmas.List.{drop-append-le, length-drop, length-append, take-append-drop, take_at}
+use Rattle.std.proofs.Common.{◌≡◌, ℕ, ◌+◌, ◌<◌, ◌≤◌, Option, Some, None, List, [], ◌∷◌, ◌++◌, length, take, drop, Vec, vec_len, refl, sym, ap, ◌∙◌, append_assoc, arith}
+use Rattle.std.proofs.lemmas.List.{drop-append-le, drop-take, length-drop, length-append, take-append-drop, take_at}
 use Rattle.mt_block.specs.Blocks.{block}
-use Rattle.mt_writer.specs.Framing.{framed, Buffer, records_in, HasFront}
+use Rattle.mt_writer.specs.Framing.{framed, Buffer, room_in, records_in, HasFront}
 
 -- further bytes behind the room for a head are bytes of records
 records_more : {Z : Type 0} (mark : Option ℕ) (buffer : Vec ℕ Z) (more : List ℕ) → HasFront mark (vec_len buffer) buffer
@@ -34,3 +34,20 @@ with_head n head new old all long twelve front rest =
     let is : new ≡ head ++ drop 12 old = sym (take-append-drop 12 new) ∙ ap (λ (l : List ℕ). l ++ drop 12 new) front ∙ ap (λ (l : List ℕ). head ++ l) rest in
     let size : n ≡ length new = omega (arith, all, long, twelve, ap length is, length-append head (drop 12 old), length-drop 12 old) in
     take_at new (drop (length new) old) n (sym size) ∙ is
+
+-- the first records of a buffer
+first_records : (mark : Option ℕ) (before : ℕ) (old : List ℕ) → records_in mark (take (room_in mark + before) old) ≡ take before (records_in mark old)
+first_records None before old = ap (λ (n : ℕ). take n old) (omega arith)
+first_records (Some mark) before old = drop-take 12 before old
+
+-- a buffer of which the last records were dropped
+pub fewer : (mark : Option ℕ) (room before : ℕ) (old new : List ℕ) (b : Buffer) → record { mark = mark; records = records_in mark old } ≡ b → room ≡ room_in mark → new ≡ take (room + before) old
+    → record { mark = mark; records = records_in mark new } ≡ record b { records = take before b.records }
+unfolding in_file
+fewer mark room before old new b is room_is all =
+    let first = all ∙ ap (λ (n : ℕ). take (n + before) old) room_is in
+    ap (in_file mark) (ap (records_in mark) first ∙ first_records mark before old) ∙ ap (λ (x : Buffer). record x { records = take before x.records }) is
+
+-- the records that stood before others are the first ones
+pub as_before : (before : ℕ) (b : Buffer) (more : List ℕ) → before ≡ length b.records → record b { records = take before (b.records ++ more) } ≡ b
+as_before before b more is = ap (λ (l : List ℕ). record b { records = l }) (take_at b.records more before (sym is))

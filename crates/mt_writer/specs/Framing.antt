@@ -1,5 +1,5 @@
 -- How records stand in a file: in blocks, one for each write, if the file is of format 4, and else one after the other.
-use Rattle.std.specs.Prelude.{◌≡◌, ℕ, ◌+◌, ◌≤◌, ◌⊎◌, Option, Some, None, List, [], ◌∷◌, ◌++◌, length, drop, Vec, vec_len, vec_capacity}
+use Rattle.std.specs.Prelude.{◌≡◌, ℕ, ◌+◌, ◌≤◌, ◌⊎◌, Option, Some, None, List, [], ◌∷◌, ◌++◌, drop, Vec, vec_len, vec_capacity}
 use Rattle.std.specs.List.{flat_map}
 use Rattle.mt_words.specs.Changes.{Logged}
 use Rattle.mt_block.specs.declared.block.TheConstants.{FRAME_BYTES}
@@ -51,6 +51,11 @@ HasMark (Some mark) bytes = (header : Header) × (more : List ℕ) × IsHeader h
 pub record Buffer : Type 0 where
   pub mark : Option ℕ
   pub records : List ℕ
+
+-- how many bytes stand before the records in a buffer: room for the head of a block, if there is a mark
+abbrev pub room_in : Option ℕ → ℕ
+room_in None = 0
+room_in (Some mark) = 12
 
 -- the bytes of the records in a buffer: if there is a mark, room for the head of a block stands before them
 abbrev pub records_in : Option ℕ → List ℕ → List ℕ

@@ -6,16 +6,16 @@
 //! ```
 //!
 //! So a block is made where its records stand, without an allocation.
-ghost use Rattle.std.specs.Prelude.{◌≡◌, ◌≤◌, ◌++◌, [], Some, length, drop, take, OnOk, OnErr, IfSome, vec_len, vec_capacity};
+ghost use Rattle.std.specs.Prelude.{◌≡◌, ◌≤◌, ◌<◌, ◌⊎◌, ◌++◌, [], Some, length, drop, take, MatchBool, OnOk, OnErr, IfSome, vec_len, vec_capacity};
 ghost use Rattle.mt_words.specs.Changes.{IsLoggedChange, changed};
 ghost use Rattle.mt_words.specs.Limits.{widest};
 ghost use Rattle.mt_record.specs.Given.{change_of};
 ghost use Rattle.mt_record.specs.Spelling.{spelling};
-ghost use Rattle.mt_block.specs.declared.block.TheConstants.{MOST_BODY};
+ghost use Rattle.mt_block.specs.declared.block.TheConstants.{MOST_BODY, SMALL_BODY};
 ghost use Rattle.mt_block.specs.Blocks.{IsBody};
-ghost use Rattle.mt_writer.specs.Framing.{framed, records_in, HasFront, HasRoomAround};
+ghost use Rattle.mt_writer.specs.Framing.{framed, room_in, records_in, HasFront, HasRoomAround};
 
-use mt_block::frame_of;
+use mt_block::{SMALL_BODY, frame_of};
 use mt_record::{GivenChange, encode_given, encode_record};
 use mt_words::{Memory, Record};
 use std::marker::Model;
@@ -87,6 +87,20 @@ impl Held {
         keep_room(self.mark, before, &mut self.bytes)
     }
 
+    /// Returns whether what follows the first `before` bytes stays: these are none, or all stand in a small block. If not,
+    /// it is dropped.
+    pub fn stays_small(&mut self, before: usize) -> bool
+        requires { before ≤ length self.old.records }
+        ensures { MatchBool result ((self.new ≡ self.old) × ((before ≡ 0) ⊎ (length self.old.records ≤ SMALL_BODY)))
+            ((self.new ≡ record self.old { records = take before self.old.records }) × ((0 < before) × (SMALL_BODY < length self.old.records))) }
+    {
+        if before == 0 || self.len() <= SMALL_BODY as usize {
+            return true;
+        }
+        self.bytes.truncate(room_in(self.mark) + before);
+        false
+    }
+
     /// Returns what is to be appended to the file, and goes on with `spare`, emptied.
     pub fn take(&mut self, spare: Vec<u8>) -> Vec<u8>
         requires { length self.old.records ≤ MOST_BODY }
@@ -101,6 +115,17 @@ impl Held {
             None => bytes,
             Some(mark) => seal(mark, bytes),
         }
+    }
+}
+
+/// Returns how many bytes stand before the records.
+fn room_in(mark: Option<u32>) -> usize
+    ensures value { result ≡ room_in mark }
+    ensures few { result ≤ 12 }
+{
+    match mark {
+        None => 0,
+        Some(_) => HEAD_BYTES,
     }
 }
 

@@ -8,16 +8,17 @@ ghost use Rattle.mt_block.specs.Blocks.{IsBody};
 ghost use Rattle.mt_record.specs.Given.{column_of, kind_of, change_of};
 ghost use Rattle.mt_record.specs.Logs.{log_bytes};
 ghost use Rattle.mt_record.specs.Spelling.{spelling};
+ghost use Rattle.mt_record.specs.Runs.{IsSmall};
 ghost use Rattle.mt_record.specs.LogFronts.{IsFrontOf};
 ghost use Rattle.mt_record.specs.Resuming.{greatest_timestamp};
 ghost use Rattle.mt_writer.specs.Framing.{framed, HasMark};
 ghost use Rattle.mt_writer.specs.Journals.{Journal, Keeps, file_of, holding, taking, syncing, read_back, MayGoOn, IsReached, IsSealed, IsFileOf, SameFile};
-ghost use Rattle.mt_writer.specs.Refusing.{HasEnded, HasRoom, IsRefused, IsUnlawful, MayNotSeal};
+ghost use Rattle.mt_writer.specs.Refusing.{HasEnded, HasRoom, IsClosed, IsRefused, IsUnlawful, MayNotSeal};
 ghost use Rattle.mt_writer.specs.declared.writer_fault.WriterFault.TheVariants as faults;
 
 use crate::held::Held;
 use crate::writer_fault::WriterFault;
-use mt_block::{FRAME_BYTES, MOST_BODY};
+use mt_block::FRAME_BYTES;
 use mt_record::{Given, GivenChange, GivenKind, LogFront, MOST_BYTES, Rest, Segment};
 use mt_words::{Format, LONGEST_KEY, Record};
 use std::alloc::Global;
@@ -57,6 +58,7 @@ impl Model for LogWriter {
     ghost use Rattle.mt_writer.specs.Framing.{frame_bytes};
     ghost use Rattle.mt_writer.specs.Journals.{Writer};
     ghost use Rattle.mt_record.specs.declared.read.TheConstants.{MOST_BYTES};
+    ghost use Rattle.mt_record.specs.Runs.{IsSmall};
 
     ghost Value = { Writer };
 
@@ -74,7 +76,7 @@ impl Model for LogWriter {
       failed = w.failed;
     } };
 
-    ghost invariant = { λ w. (w.size + w.frames + frame_bytes w.held.mark w.held.records ≤ MOST_BYTES) × (length w.held.records ≤ MOST_BODY) };
+    ghost invariant = { λ w. (w.size + w.frames + frame_bytes w.held.mark w.held.records ≤ MOST_BYTES) × ((length w.held.records ≤ MOST_BODY) × IsSmall w.held.records) };
 }
 
 impl LogWriter {
@@ -126,7 +128,7 @@ impl LogWriter {
         ensures file { SameFile self.old self.new }
         ensures err { OnErr result (self.new ≡ self.old) }
         ensures failed { self.old.failed ≡ true → result ≡ Err faults.Failed }
-        ensures fault { IfErr result (λ fault. IsRefused self.old (HasEnded self.old now) fault ⊎ IsUnlawful (record { version = version; key = key.now; kind = kinds.Put (map column_of columns.now) }) fault) }
+        ensures fault { IfErr result (λ fault. IsRefused self.old (HasEnded self.old now) (put_of (max self.old.last now) version key.now (map column_of columns.now)) fault ⊎ IsUnlawful (record { version = version; key = key.now; kind = kinds.Put (map column_of columns.now) }) fault) }
     {
         let kind = GivenKind::Put(columns);
         self.change(now, GivenChange { version, key, kind })
@@ -140,7 +142,7 @@ impl LogWriter {
         ensures file { SameFile self.old self.new }
         ensures err { OnErr result (self.new ≡ self.old) }
         ensures failed { self.old.failed ≡ true → result ≡ Err faults.Failed }
-        ensures fault { IfErr result (λ fault. IsRefused self.old (HasEnded self.old now) fault ⊎ IsUnlawful (record { version = version; key = key.now; kind = kinds.Remove }) fault) }
+        ensures fault { IfErr result (λ fault. IsRefused self.old (HasEnded self.old now) (remove_of (max self.old.last now) version key.now) fault ⊎ IsUnlawful (record { version = version; key = key.now; kind = kinds.Remove }) fault) }
     {
         let kind = GivenKind::Remove;
         self.change(now, GivenChange { version, key, kind })
@@ -160,7 +162,7 @@ impl LogWriter {
         ensures file { SameFile self.old self.new }
         ensures err { OnErr result (self.new ≡ self.old) }
         ensures failed { self.old.failed ≡ true → result ≡ Err faults.Failed }
-        ensures fault { IfErr result (λ fault. IsRefused self.old (HasEnded self.old now) fault ⊎ IsUnlawful (record { version = version; key = key.now; kind = kinds.Erase numbers.now }) fault) }
+        ensures fault { IfErr result (λ fault. IsRefused self.old (HasEnded self.old now) (erase_of (max self.old.last now) version key.now numbers.now) fault ⊎ IsUnlawful (record { version = version; key = key.now; kind = kinds.Erase numbers.now }) fault) }
     {
         let kind = GivenKind::Erase(numbers);
         self.change(now, GivenChange { version, key, kind })
@@ -174,7 +176,7 @@ impl LogWriter {
         ensures file { SameFile self.old self.new }
         ensures err { OnErr result (self.new ≡ self.old) }
         ensures failed { self.old.failed ≡ true → result ≡ Err faults.Failed }
-        ensures fault { IfErr result (IsRefused self.old (HasEnded self.old now)) }
+        ensures fault { IfErr result (IsRefused self.old (HasEnded self.old now) (mark_of (max self.old.last now))) }
     {
         let time = self.time(now)?;
         self.append_mark(time)?;
@@ -188,21 +190,22 @@ impl LogWriter {
         ensures file { SameFile self.old self.new }
         ensures err { OnErr result (self.new ≡ self.old) }
         ensures failed { self.old.failed ≡ true → result ≡ Err faults.Failed }
-        ensures fault { IfErr result (IsRefused self.old ⊥) }
+        ensures fault { IfErr result (IsRefused self.old ⊥ (mark_of greatest_timestamp)) }
     {
         // This load shows the proof that no timestamp is greater.
         let _last = self.last;
         self.append_mark(u64::MAX)
     }
 
-    /// Takes the bytes to be appended to the file, as one write: one block, if the file has blocks. The writer goes on with
-    /// `spare`, emptied. None: the write before it is not noted as synced, or one failed. So a crash leaves at most one
+    /// Takes the bytes to be appended to the file, as one write: one small block, if the file has blocks. The writer goes on
+    /// with `spare`, emptied. None: the write before it is not noted as synced, or one failed. So a crash leaves at most one
     /// write torn.
     pub fn take(&mut self, spare: Vec<u8>) -> Option<Vec<u8>>
         ensures accepted { (j : Journal) → Keeps self.old j → IsSome result ↔ ((self.old.failed ≡ false) × (j.taken ≡ [])) }
         ensures writer { (j : Journal) → Keeps self.old j → OnSome result (Keeps self.new (taking j)) }
         ensures bytes { (j : Journal) → Keeps self.old j → IfSome result (λ bytes. bytes.items ≡ framed self.old.mark (flat_map spelling j.held)) }
         ensures body { (j : Journal) → Keeps self.old j → OnSome result (IfSome self.old.mark (λ mark. IsBody (flat_map spelling j.held))) }
+        ensures small { (j : Journal) → Keeps self.old j → OnSome result (IsSmall (flat_map spelling j.held)) }
         ensures file { (j : Journal) (file : List ℕ) → Keeps self.old j → IsFileOf self.old j file → IfSome result (λ bytes. IsFileOf self.new (taking j) (file ++ bytes.items)) }
         ensures same { self.new.failed ≡ self.old.failed }
         ensures none { IfNone result (self.new ≡ self.old) }
@@ -283,12 +286,15 @@ impl LogWriter {
         ensures file { SameFile self.old self.new }
         ensures err { OnErr result (self.new ≡ self.old) }
         ensures failed { self.old.failed ≡ true → result ≡ Err faults.Failed }
-        ensures fault { IfErr result (λ fault. IsRefused self.old (HasEnded self.old now) fault ⊎ IsUnlawful (change_of given.entry) fault) }
+        ensures fault { IfErr result (λ fault. IsRefused self.old (HasEnded self.old now) (changed (max self.old.last now) (change_of given.entry)) fault ⊎ IsUnlawful (change_of given.entry) fault) }
     {
         let time = self.time(now)?;
         allow(given)?;
         let before = self.held.len();
         self.held.append_change(time, given)?;
+        if !self.held.stays_small(before) {
+            return Err(WriterFault::Untaken);
+        }
         self.size += (self.held.len() - before) as u64;
         self.last = time;
         Ok(time)
@@ -302,11 +308,14 @@ impl LogWriter {
         ensures file { SameFile self.old self.new }
         ensures err { OnErr result (self.new ≡ self.old) }
         ensures failed { self.old.failed ≡ true → result ≡ Err faults.Failed }
-        ensures fault { IfErr result (IsRefused self.old ⊥) }
+        ensures fault { IfErr result (IsRefused self.old ⊥ (mark_of time)) }
     {
         self.admit()?;
         let before = self.held.len();
         self.held.append(&Record::mark(time))?;
+        if !self.held.stays_small(before) {
+            return Err(WriterFault::Untaken);
+        }
         self.size += (self.held.len() - before) as u64;
         self.last = time;
         Ok(())
@@ -317,7 +326,7 @@ impl LogWriter {
         ensures ok { IfOk result (λ time. (time ≡ max self.now.last now) × (time < greatest_timestamp)) }
         ensures room { OnOk result (HasRoom self.now) }
         ensures failed { self.now.failed ≡ true → result ≡ Err faults.Failed }
-        ensures fault { IfErr result (IsRefused self.now (HasEnded self.now now)) }
+        ensures fault { IfErr result (IsClosed self.now (HasEnded self.now now)) }
     {
         self.admit()?;
         let time = self.last.max(now);
@@ -328,11 +337,11 @@ impl LogWriter {
         Ok(time)
     }
 
-    /// Returns whether any record may be appended. Err: `Failed`, `Full` or `Untaken`.
+    /// Returns whether any record may be appended. Err: `Failed` or `Full`.
     fn admit(&self) -> Result<(), WriterFault>
         ensures room { OnOk result (HasRoom self.now) }
         ensures failed { self.now.failed ≡ true → result ≡ Err faults.Failed }
-        ensures fault { IfErr result (IsRefused self.now ⊥) }
+        ensures fault { IfErr result (IsClosed self.now ⊥) }
     {
         if self.failed {
             return Err(WriterFault::Failed);
@@ -340,10 +349,6 @@ impl LogWriter {
         if self.size + self.frames > MOST_BYTES - FRAME_BYTES as u64 - LONGEST_RECORD {
             // Recovery refuses a file of more than MOST_BYTES.
             return Err(WriterFault::Full);
-        }
-        if self.held.len() as u64 > MOST_BODY as u64 - LONGEST_RECORD {
-            // A block has at most MOST_BODY.
-            return Err(WriterFault::Untaken);
         }
         Ok(())
     }

@@ -1,12 +1,13 @@
-use Rattle.std.proofs.Common.{◌≡◌, ◌∙◌, ℕ, map, Some, refl, sym, ap, subst}
+use Rattle.std.proofs.Common.{◌≡◌, ◌∙◌, ℕ, map, Some, refl, sym, ap, subst, ◌⊎◌, inl, inr, ◌++◌, ◌∷◌, []}
 use Rattle.std.specs.Prelude.{IsSome}
 use Rattle.std.specs.Arc.{arc_value}
 use Rattle.mt_words.specs.declared.update.Kind.TheVariants as kinds
 use Rattle.mt_record.specs.Given.{column_of}
-use Rattle.mt_keeper.specs.Crews.{LentView}
+use Rattle.mt_keeper.specs.Crews.{CrewView, LentView, HasDone, spent}
 use Rattle.mt_keeper.specs.Refusals.{LentTakesNot}
 use Rattle.mt_c.specs.Borrowing.{BorrowerView}
-use Rattle.mt_c.specs.Keepers.{HoldsBorrower}
+use Rattle.mt_c.specs.Loans.{Did}
+use Rattle.mt_c.specs.Keepers.{HoldsBorrower, HoldsDeeds}
 use Rattle.mt_c.proofs.working.mtr_worker_put.Goals as goal
 
 pub returns-in-Err-clause-why : goal.returns-in-Err-clause-why
@@ -20,3 +21,16 @@ returns-in-Err-clause-why c = λ b holds not_done.
       subst (λ (l : LentView). LentTakesNot (λ (stamp : ℕ). record { version = stamp; key = c.args.key.now; kind = kinds.Put (map column_of c.args.columns.now) }) l c.put.new.log c.in-Err.fault) log c.in-Err.ensures.fault,
       c.fault_status.ensures.value,
     )
+
+pub returns-in-Err-clause-kept : goal.returns-in-Err-clause-kept
+returns-in-Err-clause-kept c = λ crew number deeds holds not_done.
+    let inside = c.borrower.inside in
+    let did = subst (Did crew number deeds) (sym c.borrower.view_is) (subst (HoldsDeeds crew number deeds) c.in-Some.ensures.value holds) in
+    let own : c.deref.result.now ≡ crew = c.deref.ensures ∙ did.0 in
+    let err = c.in-Err.ensures.err deeds (subst (λ (x : CrewView). HasDone x.before inside.log deeds) (sym own) did.2) in
+    let after : BorrowerView = record { crew = arc_value inside.crew; number = inside.number; log = c.put.new.log } in
+    let is = c.borrower_mut.follows.holds after (subst IsSome (sym c.in-Some.is) refl) in
+    rw is (elim err as (λ _. Did crew number deeds after ⊎ Did crew number (deeds ++ spent ∷ []) after) [
+      | inl same ↦ inl (did.0, did.1, subst (λ (x : CrewView). HasDone x.before c.put.new.log deeds) own same)
+      | inr more ↦ inr (did.0, did.1, subst (λ (x : CrewView). HasDone x.before c.put.new.log (deeds ++ spent ∷ [])) own more)
+    ])

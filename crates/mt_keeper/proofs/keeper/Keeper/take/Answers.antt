@@ -1,5 +1,6 @@
 use Rattle.std.proofs.Common.{inl, inr, ◌++◌, List, flat_map, refl, sym, ap, ◌∙◌, subst, arith}
 use Rattle.mt_record.specs.Spelling.{spelling}
+use Rattle.mt_record.specs.Runs.{IsSmall}
 use Rattle.mt_writer.specs.Framing.{framed}
 use Rattle.std.proofs.lemmas.Bool.{false≢true}
 use Rattle.mt_writer.specs.Journals.{Journal, Writer, IsFileOf, taking}
@@ -21,6 +22,7 @@ returns-in_default-stage c =
       step = λ s holds. tt;
       bytes = λ s j w holds at there. tt;
       file = λ s j file holds at has. tt;
+      small = λ s j holds at. tt;
       err = ap (λ (logs : List Log). record k { logs = logs }) (put_back k.logs c.args.log x c.in-Some.ensures.value) ∙ c.self.view_is;
       failed = λ is. absurd (false≢true (sym c.if-self.false ∙ ap (λ (y : Keeping). y.failed) c.self.view_is ∙ is));
       fault = λ s holds. inr (inl (not_written k c.args.self.now c.args.log x c.self.view_is (reads k.logs c.args.log x c.in-Some.ensures.item.3.0 c.in-Some.ensures.value) c.in_default-stage.not-Writing));
@@ -68,3 +70,11 @@ returns-clause-file c = λ s j file holds at has.
     let is_file = subst (λ (y : Writer × Journal). IsFileOf y.0 y.1 file) (λ i. (sym writer i, sym same i)) has.is_file in
     let after = subst (λ (i : Journal). IsFileOf c.take.new.self (taking i) (file ++ c.in-Some-take.bytes.items)) same (c.in-Some-take.ensures.file kept.journal file kept.keeps is_file) in
     record { writer = c.take.new.self; stands = record { log = record x { stage = Writing c.take.new.self }; stands = set_there k.logs c.args.log x _ stands; is = refl }; is_file = after }
+
+pub returns-clause-small : goal.returns-clause-small
+returns-clause-small c = λ s j holds at.
+    let k = the_view c.self.inside in
+    let x = c.in-Some.log.now in
+    let stands = reads k.logs c.args.log x c.in-Some.ensures.item.3.0 c.in-Some.ensures.value in
+    let kept = kept_at k s c.args.log x c.in-Writing.writer (subst (λ (y : Keeping). Holds y s) (sym c.self.view_is) holds) stands c.in-Writing.is in
+    subst (λ (i : Journal). IsSmall (flat_map spelling i.held)) (same_journal kept.journal j (sym kept.at ∙ at)) (c.in-Some-take.ensures.small kept.journal kept.keeps)
