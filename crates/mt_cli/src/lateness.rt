@@ -50,6 +50,19 @@ impl<'a, R: Host> Run<'a, R> {
         Ok(found.unwrap_or(None))
     }
 
+    /// Returns whether an update is late, or more marks of a log than a crash leaves. Err: read error, or out of memory.
+    pub fn has_late(&self, checked: &Checked<'_>, cutoff: u64) -> Result<bool, Refusal<'static>> {
+        if checked.late() > 0 {
+            return Ok(true);
+        }
+        for (number, log) in checked.logs.iter().enumerate() {
+            if self.late_marks(number, log, cutoff)? > MOST_LATE_MARKS {
+                return Ok(true);
+            }
+        }
+        Ok(false)
+    }
+
     /// Returns the number of marks of the log of this number at or past the cutoff, without the mark that ends a log, for which the
     /// log is read again. It is 0 if the log has at most `MOST_LATE_MARKS` marks, does not go on beyond the cutoff, or is a pipe. Err:
     /// read error, or out of memory.

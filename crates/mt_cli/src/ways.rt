@@ -59,9 +59,10 @@ struct Outlook {
 
 impl<'a, R: Host> Run<'a, R> {
     /// Prints a line for each way to cut all logs in which a record is damaged, or seems torn though records or segments follow
-    /// it; if updates are late, for the way to end the logs before them with a mark; and for each header that a log may get.
-    /// It has what recovery would find then, or the fault that it would name, which ends the line, since it has blanks. Reads the
-    /// files again for each. Prints nothing if there is no such log, or one of the files cannot be read again.
+    /// it; if updates are late, or more marks of a log than a crash leaves, for the way to end the logs before them with a mark;
+    /// and for each header that a log may get. It has what recovery would find then, or the fault that it would name, which ends
+    /// the line, since it has blanks. Reads the files again for each. Prints nothing if there is no such log, or one of the files
+    /// cannot be read again.
     pub fn write_ways<W: Write>(
         &self,
         checked: &Checked<'_>,
@@ -86,11 +87,12 @@ impl<'a, R: Host> Run<'a, R> {
         let Ok(start) = &checked.start else {
             return Ok(());
         };
+        let cutoff = start.window.cutoff;
         let end = self.last_of_late(checked)?.max(checked.last_below_end());
-        if checked.late() == 0 || end <= start.window.cutoff {
+        if end <= cutoff || !self.has_late(checked, cutoff)? {
             return Ok(());
         }
-        let early = checked.ending_at(self.rt.alloc(), start.window.cutoff)?;
+        let early = checked.ending_at(self.rt.alloc(), cutoff)?;
         let way = Way::skipping("end", None, Some(end));
         self.write_way(&way, &early, is_json, out)
     }
