@@ -1,12 +1,21 @@
-//! Recovery of a store from the logs of its workers and the parts of checkpoints, and records for a server that writes these.
+//! Recovery of a store after a crash, and the logs and checkpoints of a running server.
 //!
-//! This is `library/mtrecover.h` as safe types. The C functions below it are proved: the store is the one that the rules
-//! define for exactly these bytes. That this crate calls them as they ask for is tested.
+//! A server writes its updates to *logs*. From time to time it writes a *checkpoint*, which has all keys of the store with
+//! their columns. The files of a checkpoint are its *parts*. After a crash, recovery makes the [`Store`] from the bytes of the
+//! logs and parts, or it names the one [`Fault`] why there is no store.
 //!
-//! A [`Feed`] takes the bytes of a log or part, [`Inputs`] takes the feeds, and [`Inputs::recover`] makes the [`Store`], or
-//! [`Inputs::recover_by`] on threads of the caller.
-//! [`recover`] does all of it from memory. [`records`] writes logs and parts. A [`Keeper`] keeps the logs of a server that
-//! runs, and a [`host`] has the files and threads for that.
+//! This crate gives safe types to the functions of `library/mtrecover.h`. For these C functions it is proved what they answer
+//! and write, if the caller keeps their duties. The types of this crate keep the duties. That they do so is tested, not
+//! proved.
+//!
+//! - A server that lets this crate read and write its files uses a [`host`], which owns the files and the threads that write
+//!   them.
+//! - A program that has the bytes of all logs and parts in memory calls [`recover`].
+//! - A program that reads the files itself feeds them in chunks. A [`Feed`] takes the bytes of one log or part, and [`Inputs`]
+//!   collect the feeds. [`Inputs::recover`] makes the [`Store`]. [`Inputs::recover_by`] does so on threads of the caller.
+//! - A server that writes its files itself has a [`Keeper`]. It says which bytes to write, which updates may be acknowledged,
+//!   and which files may be deleted.
+//! - The functions of [`records`] write single records, entries, headers and blocks.
 //!
 //! ```
 //! use mtrecover::records::{self, Column, Format};
@@ -25,8 +34,9 @@
 //! # Ok::<(), Box<dyn std::error::Error>>(())
 //! ```
 //!
-//! What the library itself allocates is refused by an error if there is no memory. The `Vec`s that calls return, and
-//! [`Clone`], take memory as Rust's own do. Outside [`host`] no call starts a thread, waits, prints or keeps state.
+//! If memory runs out, a call for which the library itself allocates returns an error. The `Vec`s that calls return, and
+//! [`Clone`], take memory as Rust's own types do. Outside [`host`], no call starts a thread, waits, prints, or keeps state of
+//! its own.
 
 #![no_std]
 #![warn(missing_debug_implementations)]
@@ -52,19 +62,19 @@ pub use keeper::{Buffer, Keeper, KeeperError};
 pub use pairs::{Columns, Pair, PairRef, Walk};
 pub use store::{Report, Store};
 
-/// What the library is that is linked.
+/// The version of the library that the program is linked with, and the formats that this library knows.
 #[derive(Clone, Copy, Debug, PartialEq, Eq)]
 #[non_exhaustive]
 pub struct Version {
-    /// Its version.
+    /// The version of the library: its `MTR_VERSION_MAJOR`.
     pub library: u32,
-    /// The greatest format of logs that it knows.
+    /// The greatest format of logs that the library knows.
     pub log_format: u32,
-    /// The greatest format of parts that it knows.
+    /// The greatest format of parts that the library knows.
     pub part_format: u32,
 }
 
-/// Returns what the library is that is linked.
+/// Returns the version of the library that the program is linked with, and the formats that it knows.
 pub fn version() -> Version {
     let mut raw = c::RawVersions::default();
     // SAFETY: the call writes to `raw` alone.

@@ -1,4 +1,6 @@
-//! Records, parts of checkpoints and their headers, appended to what a server writes.
+//! Encodings: single records, blocks, entries and headers, which these functions append to the bytes that a server writes.
+//!
+//! Each function with the parameter `out` appends its bytes to the end of `out`. If it returns an `Err`, `out` is as before.
 
 use alloc::vec::Vec;
 
@@ -8,36 +10,40 @@ use crate::{OutOfMemory, WriteError};
 
 pub use crate::c::Column;
 
-/// A format of logs and parts. Segments, and all files of format 4, have the records and entries of format 2.
+/// What the records of a log, or the entries of a part, may have. Segments, and all files of format 4, have the records and
+/// entries of format 2.
 #[derive(Clone, Copy, Debug, PartialEq, Eq)]
 pub enum Format {
-    /// Keys of at most 1,024 bytes, columns 0 to 15, no erases.
+    /// Format 1: keys have at most 1,024 bytes, columns have the numbers 0 to 15, and there are no erases.
     One = 1,
-    /// Keys of at most 4,096 bytes, columns 0 to 63, erases.
+    /// Format 2: keys have at most 4,096 bytes, columns have the numbers 0 to 63, and logs may have erases.
     Two,
 }
 
-/// The mark of a file of format 4, with which its blocks begin. Its header tells it.
+/// The number with which each block of one file of format 4 begins. [`log_header_4`] and [`part_header_4`] return it. It has
+/// nothing to do with the records that are called marks ([`mark`]).
 #[derive(Clone, Copy, Debug, PartialEq, Eq)]
 pub struct Mark(u32);
 
-/// What became of a log.
+/// What happened to a log when [`resume_log`] made the bytes that replace it.
 #[derive(Clone, Copy, Debug, PartialEq, Eq)]
 #[non_exhaustive]
 pub struct Resumed {
-    /// Its updates at or past the cutoff, which are gone.
+    /// How many updates of the log were dropped, because they are at or past the cutoff.
     pub dropped: u64,
-    /// Its marks at or past the cutoff, which are gone, but for one at 2^64 - 1. A crash leaves few of them.
+    /// How many marks of the log were dropped, because they are at or past the cutoff. A mark at 2^64 - 1 does not count. A
+    /// crash leaves few such marks.
     pub late_marks: u64,
-    /// The format in which its records go on.
+    /// The format in which further records of the log are written.
     pub format: Format,
-    /// Whether the bytes are others now, as those of a log of format 4 always are.
+    /// Whether the new bytes differ from the bytes of the log. For a log of format 4 they always do.
     pub changed: bool,
-    /// Whether a mark at 2^64 - 1 ends them, so that records go on in another log.
+    /// Whether a mark at 2^64 - 1 ends the new bytes. Then write further records to another log.
     pub ended: bool,
 }
 
-/// Appends what a call writes: it is told where, and how many bytes there is room for. Returns its last status.
+/// Appends the bytes that `call` writes. `call` gets a place for the bytes, the number of bytes that have room there, and a
+/// place for their count. If the room is too small, `append` makes room and calls it again. Returns the last status.
 pub(crate) fn append(out: &mut Vec<u8>, mut call: impl FnMut(*mut u8, usize, *mut usize) -> u32) -> u32 {
     let mut count = 0;
     loop {
@@ -55,7 +61,7 @@ pub(crate) fn append(out: &mut Vec<u8>, mut call: impl FnMut(*mut u8, usize, *mu
     }
 }
 
-/// Appends likewise, and says why not.
+/// Appends the bytes that `call` writes, as [`append`] does, and turns its status into an error.
 fn write(out: &mut Vec<u8>, call: impl FnMut(*mut u8, usize, *mut usize) -> u32) -> Result<(), WriteError> {
     match append(out, call) {
         c::DONE => Ok(()),
@@ -66,23 +72,25 @@ fn write(out: &mut Vec<u8>, call: impl FnMut(*mut u8, usize, *mut usize) -> u32)
     }
 }
 
-// After `Err` each of these functions leaves `out` as it was.
-
 /// Appends the header of a log that is no segment. Updates below the timestamp `from` may be missing from the log.
 pub fn log_header(out: &mut Vec<u8>, format: Format, from: u64) -> Result<(), OutOfMemory> {
     // SAFETY: slices are lent for the call, and `append` says where and how much may be written.
     done(append(out, |at, room, count| unsafe { c::mtr_log_header(format as u32, from, at, room, count) }))
 }
 
-/// Appends the header of a segment of a worker's log.
+/// Appends the header of a segment of format 3. `worker` is the number of the worker whose log it is, and `segment` is the
+/// number of the segment. Updates below the timestamp `from` may be missing from the segment.
 pub fn segment_header(out: &mut Vec<u8>, from: u64, worker: u32, segment: u32) -> Result<(), OutOfMemory> {
     // SAFETY: slices are lent for the call, and `append` says where and how much may be written.
     done(append(out, |at, room, count| unsafe { c::mtr_segment_header(from, worker, segment, at, room, count) }))
 }
 
-/// Appends the header of a log of format 4, which is a segment of a worker's log, and returns the mark of its blocks. `salt`
-/// is a random number, new for each file, and `workers` the number of workers of the server. Records go into blocks
-/// ([`seal`]), cut anywhere.
+/// Appends the header of a log of format 4, and returns the mark of its blocks. Such a log is a segment of a worker's log. The
+/// records of the log go into blocks ([`seal`]), and may be cut into blocks anywhere.
+/// - `salt` is a random number, which must be new for each file.
+/// - `worker` is the number of the worker whose log it is, and `segment` is the number of the segment.
+/// - `workers` is the number of workers of the server.
+/// - `from` is a timestamp: updates below it may be missing from the segment.
 pub fn log_header_4(
     out: &mut Vec<u8>,
     salt: u64,
@@ -99,19 +107,21 @@ pub fn log_header_4(
     Ok(Mark(mark))
 }
 
-/// Appends a block with this body to the file with this mark. `NotLawful`: the body has more than 2^23 bytes.
+/// Appends a block with this body, for the file whose blocks have this mark. `NotLawful`: the body has more than 2^23 bytes.
 pub fn seal(out: &mut Vec<u8>, mark: Mark, body: &[u8]) -> Result<(), WriteError> {
     // SAFETY: slices are lent for the call, and `append` says where and how much may be written.
     write(out, |at, room, count| unsafe { c::mtr_seal(mark.0, body.as_ptr(), body.len(), at, room, count) })
 }
 
-/// Appends a mark.
+/// Appends a mark: a record that has only the timestamp `time`, and says that its log reaches up to there.
 pub fn mark(out: &mut Vec<u8>, time: u64) -> Result<(), OutOfMemory> {
     // SAFETY: slices are lent for the call, and `append` says where and how much may be written.
     done(append(out, |at, room, count| unsafe { c::mtr_mark(time, at, room, count) }))
 }
 
-/// Appends a put of these columns, whose numbers rise, to a log of this format.
+/// Appends a put of these columns of the key, for a log of this format. `time` is the timestamp of the update, and `version`
+/// is its version. The numbers of the columns must rise. `NotLawful`: no log of this format may have the record
+/// ([`WriteError::NotLawful`]).
 pub fn put(
     out: &mut Vec<u8>,
     format: Format,
@@ -127,7 +137,9 @@ pub fn put(
     })
 }
 
-/// Appends a remove of the key to a log of this format.
+/// Appends a remove of the key, for a log of this format. A remove takes all columns from the key. `time` is the timestamp of
+/// the update, and `version` is its version. `NotLawful`: no log of this format may have the record
+/// ([`WriteError::NotLawful`]).
 pub fn remove(out: &mut Vec<u8>, format: Format, time: u64, version: u64, key: &[u8]) -> Result<(), WriteError> {
     // SAFETY: slices are lent for the call, and `append` says where and how much may be written.
     write(out, |at, room, count| unsafe {
@@ -135,7 +147,9 @@ pub fn remove(out: &mut Vec<u8>, format: Format, time: u64, version: u64, key: &
     })
 }
 
-/// Appends an erase of the columns with these numbers, which rise, to a log of this format.
+/// Appends an erase, for a log of this format. An erase takes the columns with these numbers from the key. The numbers must
+/// rise. `time` is the timestamp of the update, and `version` is its version. `NotLawful`: no log of this format may have the
+/// record ([`WriteError::NotLawful`]).
 pub fn erase(
     out: &mut Vec<u8>,
     format: Format,
@@ -151,7 +165,8 @@ pub fn erase(
     })
 }
 
-/// Appends the header of part `part` of the `parts` parts of checkpoint `number`, which begins at the timestamp `begin`.
+/// Appends the header of a part. The part is part `part`, counted from 0, of the `parts` parts of the checkpoint with the
+/// number `number`. This checkpoint begins at the timestamp `begin`.
 pub fn part_header(
     out: &mut Vec<u8>,
     format: Format,
@@ -166,8 +181,9 @@ pub fn part_header(
     }))
 }
 
-/// Appends the header of a part of format 4, likewise, and returns the mark of its blocks, into which entries and the footer
-/// go ([`seal`]), cut anywhere. `salt` is a random number, new for each file.
+/// Appends the header of a part of format 4, and returns the mark of its blocks. `salt` is a random number, which must be new
+/// for each file. The other parameters are those of [`part_header`]. The entries and the footer of the part go into blocks
+/// ([`seal`]), and may be cut into blocks anywhere.
 pub fn part_header_4(
     out: &mut Vec<u8>,
     salt: u64,
@@ -184,8 +200,10 @@ pub fn part_header_4(
     Ok(Mark(mark))
 }
 
-/// Appends the entry of a key with these columns, whose numbers rise, to a part of this format. Each key of a part is above
-/// the one before it, in the order of their bytes: see to it, since no call here knows the one before.
+/// Appends the entry of a key with these columns, for a part of this format. The numbers of the columns must rise. The keys of
+/// a part must rise too, compared byte by byte. Ensure this yourself, because this function does not know the key before. A
+/// [`PartWriter`](crate::keeper::PartWriter) does. `NotLawful`: no part of this format may have the entry
+/// ([`WriteError::NotLawful`]).
 pub fn entry(
     out: &mut Vec<u8>,
     format: Format,
@@ -200,14 +218,19 @@ pub fn entry(
     })
 }
 
-/// Appends the footer of a part with so many entries, whose checkpoint ends at the timestamp `end`.
+/// Appends the footer of a part that has `entries` entries. Its checkpoint ends at the timestamp `end`.
 pub fn part_footer(out: &mut Vec<u8>, end: u64, entries: u32) -> Result<(), OutOfMemory> {
     // SAFETY: slices are lent for the call, and `append` says where and how much may be written.
     done(append(out, |at, room, count| unsafe { c::mtr_part_footer(end, entries, at, room, count) }))
 }
 
-/// Appends what replaces this log if a server goes on after a recovery with this cutoff: its records below the cutoff, and
-/// a mark there. A log of format 4 is replaced by a file of format 4 with this salt, a random number, new for each file.
+/// Appends the bytes that must replace a log before a server goes on after a recovery. `log` has the bytes of the log, and
+/// `cutoff` is the cutoff of the report. The new bytes have the header of the log, with a `from` of at most the cutoff; its
+/// records below the cutoff; a mark at the cutoff; and, if the log was ended, the mark at 2^64 - 1 that ends it.
+///
+/// A log of format 4 is replaced by a file of format 4 with the salt `salt`, a random number that must be new for each file.
+///
+/// `NoLog`: the bytes are no log.
 pub fn resume_log(out: &mut Vec<u8>, log: &[u8], cutoff: u64, salt: u64) -> Result<Resumed, WriteError> {
     let mut raw = RawResumed::default();
     // SAFETY: slices are lent for the call, and `append` says where and how much may be written.
@@ -218,21 +241,21 @@ pub fn resume_log(out: &mut Vec<u8>, log: &[u8], cutoff: u64, salt: u64) -> Resu
     Ok(Resumed { dropped: raw.dropped, late_marks: raw.late_marks, format, changed: raw.changed, ended: raw.ended })
 }
 
-/// Where a log ends.
+/// Where a log ends. A server compares these facts of all its logs to find out whether more was lost than a crash loses.
 #[derive(Clone, Copy, Debug, PartialEq, Eq)]
 #[non_exhaustive]
 pub struct Ending {
-    /// The timestamp of its header, below which updates may be missing.
+    /// The timestamp in the header of the log. Updates below it may be missing from the log.
     pub from: u64,
-    /// The greatest of its timestamps: of its header and its complete records.
+    /// The greatest timestamp of the header and of the complete records.
     pub last: u64,
-    /// Whether a torn tail follows these records.
+    /// Whether a torn tail follows the complete records.
     pub torn: bool,
-    /// Whether further records follow the torn tail, as no crash leaves them. Never of a log of format 4.
+    /// Whether more records follow the torn tail. No crash leaves such records. It is never true for a log of format 4.
     pub goes_on: bool,
 }
 
-/// Returns where a log ends.
+/// Returns where the log with these bytes ends. `NoLog`: the bytes are no log.
 pub fn log_ending(log: &[u8]) -> Result<Ending, WriteError> {
     let mut raw = RawLogEnding::default();
     // SAFETY: the log is lent for the call, which writes to `raw` alone.

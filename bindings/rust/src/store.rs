@@ -1,4 +1,4 @@
-//! The store, and what it answers.
+//! The recovered store, and the report of its recovery.
 
 use alloc::alloc::{handle_alloc_error, Layout};
 use alloc::vec::Vec;
@@ -8,9 +8,10 @@ use crate::inputs::done;
 use crate::records::append;
 use crate::OutOfMemory;
 
-/// A recovered store, which does not change. A clone is the same store, for another thread: nothing is copied.
+/// A recovered store: keys with their columns. Nothing changes a store. A clone is the same store for another thread; cloning
+/// copies nothing.
 ///
-/// A store is asked by one call at a time, so threads cannot share one:
+/// Give each thread a clone of its own. A store answers one call at a time, so threads cannot share one store:
 ///
 /// ```compile_fail,E0277
 /// fn share<T: Sync>() {}
@@ -20,13 +21,14 @@ use crate::OutOfMemory;
 pub struct Store(pub(crate) Place);
 
 impl Store {
-    /// Returns whether the key is there.
+    /// Returns whether the store has this key.
     pub fn contains_key(&self, key: &[u8]) -> bool {
         // SAFETY: the key is lent for the call, and the place holds a store.
         unsafe { c::mtr_exists(self.0.raw(), key.as_ptr(), key.len()) == c::DONE }
     }
 
-    /// Returns the value of this column of the key, if it is there.
+    /// Returns the value of the column with the number `column` of this key. Returns `None` if the store does not have the
+    /// key, or the key does not have this column.
     pub fn get(&self, key: &[u8], column: u8) -> Option<Vec<u8>> {
         let mut value = Vec::new();
         // SAFETY: the key is lent for the call, and the place holds a store.
@@ -36,7 +38,7 @@ impl Store {
         (status == c::DONE).then_some(value)
     }
 
-    /// Returns what recovery found.
+    /// Returns the report: what recovery found in the logs and parts.
     pub fn report(&self) -> Report {
         let mut raw = RawReport::default();
         // SAFETY: the place holds a store, and the call writes to `raw` alone.
@@ -64,7 +66,7 @@ impl Store {
         }
     }
 
-    /// Returns the items of a list of the report.
+    /// Returns the items of a list of the report, each of which the call `item` gives.
     fn list(&self, item: unsafe extern "C" fn(*mut c::RawPlace, usize, *mut u64) -> u32) -> Vec<u64> {
         let mut items = Vec::new();
         let mut found = 0;
@@ -75,7 +77,8 @@ impl Store {
         items
     }
 
-    /// Returns the same store once more.
+    /// Returns another handle of the same store, for another thread. Nothing is copied. The store is freed with the last of
+    /// its handles. This is what [`Clone`] does, but out of memory is an error here.
     pub fn share(&self) -> Result<Store, OutOfMemory> {
         let other = Place::empty();
         // SAFETY: the place holds a store, and the other one is empty.
@@ -85,52 +88,55 @@ impl Store {
 }
 
 impl Clone for Store {
-    /// Shares the store. Without memory it ends the program, as a clone of a `Vec` does.
+    /// Returns another handle of the same store, as [`Store::share`] does. If memory runs out, this ends the program, as a
+    /// clone of a `Vec` does.
     fn clone(&self) -> Store {
         self.share().unwrap_or_else(|OutOfMemory| handle_alloc_error(Layout::new::<Place>()))
     }
 }
 
-/// What recovery found. `u64::MAX` may stand for a greater number.
+/// What recovery found in the logs and parts. `u64::MAX` may stand for a greater number.
 #[derive(Clone, Debug, PartialEq, Eq)]
 #[non_exhaustive]
 pub struct Report {
-    /// The timestamp below which updates survive. New ones are given timestamps from it on.
+    /// The cutoff: an update of a log survives only if its timestamp is below the cutoff. New updates get timestamps from the
+    /// cutoff on.
     pub cutoff: u64,
     /// The greatest timestamp in the logs.
     pub last: u64,
-    /// The greatest version of the logs' complete records and of the checkpoint's entries, or 0.
+    /// The greatest version of the complete records of the logs and of the entries of the chosen checkpoint, or 0.
     pub version: u64,
-    /// The number of the chosen checkpoint.
+    /// The number of the checkpoint that recovery chose, or `None` if it chose none.
     pub checkpoint: Option<u64>,
-    /// The timestamp from which updates survive: where that checkpoint begins, or 0.
+    /// The timestamp from which updates survive: the begin of the chosen checkpoint, or 0 if there is none.
     pub begin: u64,
-    /// The entries of that checkpoint.
+    /// How many entries the chosen checkpoint has.
     pub entries: u64,
-    /// The logs, where a worker's segments are one.
+    /// How many logs there are, if all segments of a worker are counted as one log.
     pub writers: u64,
-    /// The complete records, marks included.
+    /// How many complete records the logs have, marks included.
     pub records: u64,
-    /// The marks among them.
+    /// How many of these records are marks.
     pub marks: u64,
-    /// Logs that end in a torn tail.
+    /// How many log files end in a torn tail: in bytes that are no whole record, as a crash leaves them.
     pub torn: u64,
-    /// Logs before which updates may be missing.
+    /// Before how many log files updates may be missing.
     pub holes: u64,
-    /// Updates below `begin`.
+    /// How many updates are early: below `begin`.
     pub early: u64,
-    /// Updates at or past the cutoff.
+    /// How many updates are late: at or past the cutoff.
     pub late: u64,
-    /// Updates and entries that survive.
+    /// How many updates and entries survive.
     pub survivors: u64,
-    /// The keys of the store.
+    /// How many keys the store has.
     pub keys: u64,
-    /// The layers of the tree.
+    /// How many layers the tree of the store has.
     pub layers: u64,
-    /// Where the complete records of each log end.
+    /// For each log, where its complete records end: the number of bytes of its header and of these records. For a log of
+    /// format 4, the bytes of the log of format 3 that stands in its blocks are counted.
     pub ends: Vec<u64>,
-    /// The numbers of invalid checkpoints.
+    /// The numbers of the checkpoints that are invalid. They rise.
     pub skipped: Vec<u64>,
-    /// The parts that name no checkpoint.
+    /// The parts that have no header, and so belong to no checkpoint: the number that each has among all parts. They rise.
     pub nameless: Vec<u64>,
 }
