@@ -1,6 +1,14 @@
-//! The host's half of a server's logs, over `std::fs`: `library/host.c` in Rust. Threads of the host write, sync, name and
-//! delete the files of a folder, while threads of a server put updates and wait for them. It is not proved; it is to be read.
-//! The folder has the files
+//! A host for a server in Rust, over `std::fs`. A *host* owns the files of one folder: the logs of the server and its
+//! checkpoints. Threads of the host write, sync, rename and delete these files, while threads of the server put updates and
+//! wait until the updates are durable. The server itself opens no file.
+//!
+//! A server calls [`open`], copies the recovered store into its own table, and calls [`Opened::start`]. Then its threads call
+//! [`Host::put`] and [`Host::wait`]. At the end it calls [`Host::close`]. README.md has a complete program.
+//!
+//! The host does the same as `library/host.c`. It rests on functions of the library that are proved. The host itself is tested
+//! and not proved: read it before you rely on it.
+//!
+//! The folder has these files:
 //!
 //! ```text
 //! WORKER-SEGMENT.mtl   a segment of a worker's log
@@ -9,8 +17,9 @@
 //! NAME.new             a file that is not whole: it takes its name once it is synced
 //! ```
 //!
-//! One lock guards the keeper and all that threads share. It is free while a thread writes or syncs. After a failed write or
-//! sync nothing is acknowledged any more: only a restart of the machine shows what the disk has.
+//! One lock guards the keeper and all else that the threads share. No thread holds the lock while it writes or syncs. After a
+//! write or a sync has failed, nothing is acknowledged any more, because only a restart of the machine shows what the disk
+//! has.
 
 extern crate std;
 
@@ -35,20 +44,20 @@ use crate::keeper::{Buffer, Checkpoint, Keeper, KeeperError, Log, NewLog, PartWr
 use crate::records::{self, Column, Resumed};
 use crate::{Feed, Inputs, OutOfMemory, Report, Store};
 
-/// What a host works on.
+/// What a host works on, and how.
 #[derive(Clone, Debug)]
 pub struct Settings {
-    /// The folder of its files.
+    /// The path of the folder. The folder must exist.
     pub folder: PathBuf,
-    /// This many threads write, each a log of its own.
+    /// How many logs the host writes, each on a thread of its own.
     pub logs: usize,
-    /// A log's file is followed by the next one from this size on.
+    /// Once the file of a log has this many bytes, the next file follows.
     pub segment: u64,
-    /// A checkpoint is made once this many bytes of logs were written.
+    /// Once this many bytes of logs were written since the last checkpoint began, the host makes the next one.
     pub checkpoint: u64,
-    /// [`open`] refuses to lose more late updates than this. None: it does not count them.
+    /// [`open`] refuses to lose more late updates than this number. If it is `None`, [`open`] does not count them.
     pub max_late: Option<u64>,
-    /// [`open`] goes on although updates are lost that no crash loses.
+    /// If true, [`open`] goes on although updates are lost that no crash loses.
     pub accept_loss: bool,
 }
 
@@ -60,7 +69,7 @@ pub struct HostError {
 }
 
 impl HostError {
-    /// The error that this was not done, and why.
+    /// Returns the error that says what could not be done, and why.
     pub fn new(what: &str, why: impl Display) -> HostError {
         HostError { what: what.to_owned(), why: why.to_string() }
     }
@@ -74,7 +83,7 @@ impl Display for HostError {
 
 impl StdError for HostError {}
 
-/// Says what a call was for, if it fails.
+/// Says in the error of a call what the call was for.
 trait Of<T> {
     fn of(self, what: &str) -> Result<T, HostError>;
 }
@@ -96,11 +105,11 @@ const ENTRY: usize = 19;
 /// The bytes of a column beside its value.
 const COLUMN: usize = 3;
 
-/// A log runs at most this many takes ahead of what is acknowledged. Each take ends with a mark: so a crash leaves no more
-/// marks of a log at or past the cutoff, and a start takes more of them for a loss.
+/// How many takes a log may run ahead of what is acknowledged. Each take ends with a mark. So a crash leaves at most this many
+/// marks of a log at or past the cutoff. If there are more, a start suspects a loss.
 const AHEAD: usize = 16;
 
-/// The file in which losses are noted.
+/// The name of the file in which losses are noted.
 const NOTES: &str = "LOSS";
 
 fn name_of_log(segment: Segment) -> String {
@@ -111,24 +120,24 @@ fn name_of_part(number: u32) -> String {
     format!("{number}-0.mtc")
 }
 
-/// What `flock` does: it locks for this process alone, or fails at once.
+/// The argument of `flock`: it locks the file for this process alone, or fails at once.
 const ALONE_AT_ONCE: i32 = 2 | 4;
 
 extern "C" {
     fn flock(file: i32, what: i32) -> i32;
 }
 
-/// The folder, which is locked while it is open.
+/// The folder. It is locked as long as it is open.
 #[derive(Debug)]
 struct Folder {
     path: PathBuf,
     file: File,
 }
 
-/// What the folder has.
+/// The files that the folder has.
 struct Found {
     logs: Vec<Segment>,
-    /// The checkpoints of its parts.
+    /// The number of the checkpoint of each part.
     parts: Vec<u32>,
 }
 
@@ -145,7 +154,7 @@ impl Folder {
         Ok(Folder { path, file })
     }
 
-    /// Finds the logs, in the order of their segments, and the parts.
+    /// Finds the logs and the parts of the folder. The logs come in the order of their segments.
     fn find(&self) -> Result<Found, HostError> {
         let mut found = Found { logs: Vec::new(), parts: Vec::new() };
         for entry in fs::read_dir(&self.path).of("the folder")? {
@@ -167,7 +176,7 @@ impl Folder {
         Ok(found)
     }
 
-    /// Reads a file, once it is synced: no crash may take back what recovery reads.
+    /// Reads a file after syncing it, so that no crash can take back what recovery reads.
     fn read(&self, name: &str) -> Result<(Vec<u8>, Permissions), HostError> {
         let mut bytes = Vec::new();
         let mut file = File::open(self.path.join(name)).of(name)?;
@@ -176,7 +185,7 @@ impl Folder {
         Ok((bytes, file.metadata().of(name)?.permissions()))
     }
 
-    /// Where the file NAME.new is.
+    /// Returns the path of the file NAME.new.
     fn new_path(&self, name: &str) -> PathBuf {
         self.path.join(format!("{name}.new"))
     }
@@ -186,25 +195,26 @@ impl Folder {
         File::create(self.new_path(name)).of(name)
     }
 
-    /// Gives the file NAME.new, which is whole, its name, which a crash takes back no more.
+    /// Renames the file NAME.new, which is whole, to NAME. It syncs the file before that and the folder after that, so that no
+    /// crash takes the name back.
     fn place(&self, file: &File, name: &str) -> Result<(), HostError> {
         file.sync_all().of(name)?;
         fs::rename(self.new_path(name), self.path.join(name)).of(name)?;
         self.file.sync_all().of(name)
     }
 
-    /// Deletes the file NAME.new. If that fails, it is in nobody's way.
+    /// Deletes the file NAME.new. If that fails, the file harms nobody.
     fn discard(&self, name: &str) {
         let _ = fs::remove_file(self.new_path(name));
     }
 
-    /// Deletes a file, which a crash brings back no more.
+    /// Deletes a file, and syncs the folder, so that no crash brings the file back.
     fn delete(&self, name: &str) -> Result<(), HostError> {
         fs::remove_file(self.path.join(name)).of(name)?;
         self.file.sync_all().of(name)
     }
 
-    /// Notes the lines that the notes do not have yet. The file gets these permissions.
+    /// Appends those lines to the file LOSS that it does not have yet. The file gets these permissions.
     fn note(&self, lines: &[String], permissions: &Permissions) -> Result<(), HostError> {
         let mut text = match fs::read(self.path.join(NOTES)) {
             Err(error) if error.kind() == io::ErrorKind::NotFound => Vec::new(),
@@ -237,28 +247,34 @@ impl Folder {
 
 // ---- A start ----
 
-/// A host that has recovered its store, and has no thread.
+/// A host that has recovered its store, and has no thread yet.
 #[derive(Debug)]
 pub struct Opened {
-    /// What the folder had, if it had logs.
+    /// The store that was recovered, or `None` if the folder had no logs and no parts.
     pub store: Option<Store>,
-    /// The last stamp: no recovered key has a greater version.
+    /// The last stamp: no recovered key has a greater version. Use it as the version of each recovered key.
     pub last: u64,
     settings: Settings,
     folder: Folder,
     keeper: Keeper,
     logs: Vec<(Log, File, u64)>,
-    /// The checkpoint on which the server stands.
+    /// The number of the checkpoint on which the server stands.
     standing: Option<u32>,
 }
 
-/// Opens a folder that no other server has open, and that hosts alone wrote, recovers its store, and makes the logs ready for
-/// more.
+/// Opens the folder of the settings, and locks it against other servers. Only hosts may have written this folder. If the
+/// folder has logs, `open` recovers their store, and makes the logs ready for more records.
 ///
-/// It refuses what `mtrecover resume` refuses, before any file is changed: a log with more than 16 marks at or past the cutoff
-/// or, with [`Settings::max_late`], more late updates, which may be those of a log that was put back or cut short; a hole
-/// before a segment; records behind a torn tail; a broken part that is newer than the chosen one. Put the lost bytes back.
-/// With [`Settings::accept_loss`] it goes on without them, and the file LOSS in the folder notes what is lost.
+/// `open` refuses the losses that `mtrecover resume` refuses, before it changes any file:
+///
+/// - a log with more than 16 marks at or past the cutoff; and, with [`Settings::max_late`], more late updates than that
+///   number. A log that was put back from a copy, or was cut short, leaves such marks and updates in the other logs.
+/// - a hole before a segment;
+/// - records behind a torn tail;
+/// - a broken part of a checkpoint that is newer than the chosen checkpoint.
+///
+/// If `open` refuses, put the lost bytes back. With [`Settings::accept_loss`], the host goes on without them, and notes in the
+/// file LOSS of the folder what is lost.
 pub fn open(settings: Settings) -> Result<Opened, HostError> {
     let folder = Folder::open(settings.folder.clone())?;
     let found = folder.find()?;
@@ -281,13 +297,13 @@ fn begin(settings: Settings, folder: Folder) -> Result<Opened, HostError> {
 /// A log that the last server left.
 struct Old {
     segment: Segment,
-    /// Then those that replace it.
+    /// The bytes of the log, and later the bytes that replace them.
     bytes: Vec<u8>,
     permissions: Permissions,
 }
 
 impl Old {
-    /// Makes the bytes that replace the log, in place of its own. No file is changed.
+    /// Makes the bytes that must replace the log, and keeps them in place of the bytes of the log. Changes no file.
     fn resume(&mut self, cutoff: u64, salt: u64) -> Result<Resumed, HostError> {
         let name = name_of_log(self.segment);
         let mut bytes = Vec::new();
@@ -304,8 +320,8 @@ impl Old {
     }
 }
 
-/// Whether a file has the name that its header of this size says, since files are deleted by their names. One without a whole
-/// header is no log, and as a part is not chosen.
+/// Returns whether a file has the name that its header says. This matters because files are deleted by their names. `size` is
+/// the size of the header. A file without a whole header passes: as a log it is a fault, and as a part it is not chosen.
 fn is_own(bytes: &[u8], size: usize, magic: &[u8], at: usize, numbers: &[u32]) -> bool {
     let numbers: Vec<u8> = numbers.iter().flat_map(|number| number.to_be_bytes()).collect();
     bytes.len() < size || bytes.starts_with(magic) && bytes[at..].starts_with(&numbers)
@@ -315,14 +331,14 @@ fn expect_own(is_own: bool, name: &str) -> Result<(), HostError> {
     is_own.then_some(()).ok_or("it is not the file of this name").of(name)
 }
 
-/// Adds a log or a part to the inputs. Recovery tells what is wrong with its bytes.
+/// Adds a log or a part to the inputs. If its bytes are wrong, recovery says so.
 fn add(inputs: &mut Inputs, feed: Result<Feed, OutOfMemory>, bytes: &[u8]) -> Result<(), OutOfMemory> {
     let mut feed = feed?;
     feed.feed(bytes)?;
     inputs.add(feed)
 }
 
-/// Recovers the store of what was found, and returns the logs too.
+/// Recovers the store from the files that were found. Returns the store, and the logs.
 fn recover(folder: &Folder, found: &Found) -> Result<(Store, Vec<Old>), HostError> {
     let mut inputs = Inputs::new();
     let mut logs = Vec::new();
@@ -356,7 +372,7 @@ fn salt() -> u64 {
     RandomState::new().build_hasher().finish()
 }
 
-/// Replaces a log by what goes on, and adds it. Returns its file and size.
+/// Replaces the file of a log by its new bytes, and adds the log to the keeper. Returns the file and its size.
 fn replace(folder: &Folder, keeper: &mut Resuming, log: &Old) -> Result<(File, u64), HostError> {
     let name = name_of_log(log.segment);
     let mut file = folder.create(&name)?;
@@ -367,7 +383,7 @@ fn replace(folder: &Folder, keeper: &mut Resuming, log: &Old) -> Result<(File, u
     Ok((file, log.bytes.len() as u64))
 }
 
-/// Goes on with what the last server left.
+/// Goes on with the files that the last server left.
 fn go_on(settings: Settings, folder: Folder, found: Found) -> Result<Opened, HostError> {
     let (store, mut old) = recover(&folder, &found)?;
     let (report, salt) = (store.report(), salt());
@@ -406,7 +422,7 @@ fn go_on(settings: Settings, folder: Folder, found: Found) -> Result<Opened, Hos
 
 // ---- Losses ----
 
-/// What a start knows of what was lost.
+/// What a start knows of the losses.
 struct Losses<'a> {
     settings: &'a Settings,
     folder: &'a Folder,
@@ -433,7 +449,8 @@ impl Losses<'_> {
         self.settings.max_late.is_some_and(|most| self.report.late > most)
     }
 
-    /// Returns whether recovery lost more of the logs than a crash loses, or may have. Then they are read once more.
+    /// Returns whether recovery lost more of the logs than a crash loses, or may have lost more. If so, the logs are read once
+    /// more to find out.
     fn is_suspect(&self) -> bool {
         let has_many = self.resumed.iter().any(|log| log.late_marks > AHEAD as u64);
         let may_go_on = self.report.torn > 0 && self.old.iter().any(|log| !log.is_sealed());
@@ -479,8 +496,8 @@ impl Losses<'_> {
     }
 }
 
-/// Refuses losses that are not accepted, before any file is changed, so that what was lost may be put back. Those that are
-/// accepted are noted: nothing else tells of them once the logs are replaced.
+/// Refuses losses that are not accepted, before any file is changed, so that what was lost can still be put back. Notes losses
+/// that are accepted, because nothing else says what was lost after the logs are replaced.
 fn expect_accepted(settings: &Settings, folder: &Folder, lines: &[String], old: &[Old]) -> Result<(), HostError> {
     if lines.is_empty() {
         return Ok(());
@@ -495,16 +512,18 @@ fn expect_accepted(settings: &Settings, folder: &Folder, lines: &[String], old: 
 }
 
 impl Opened {
-    /// Creates a log.
+    /// Creates the file of a log.
     fn add(&mut self, new: NewLog) -> Result<(), HostError> {
         let file = self.folder.create_log(&new)?;
         self.logs.push((self.keeper.created(new).of("a log")?, file, 0));
         Ok(())
     }
 
-    /// Starts the threads, once the server has what it needs of the store. For each checkpoint `entries` gives
-    /// [`Part::entry`] each key that the server has, read after that call began, in the order of keys, byte by byte; after an
-    /// `Err` the checkpoint is given up, and nothing is deleted for it.
+    /// Starts the threads of the host. Call it after the server has copied the store into its own table.
+    ///
+    /// When the host makes a checkpoint, it calls `entries` on a thread of its own. `entries` must give [`Part::entry`] each
+    /// key of the server that has columns, in the order of keys, compared byte by byte. It must read each key after this call
+    /// of `entries` began. If `entries` returns an `Err`, the host gives the checkpoint up, and deletes nothing for it.
     pub fn start<E>(self, entries: E) -> Result<Host, HostError>
     where
         E: FnMut(&mut Part) -> Result<(), HostError> + Send + 'static,
@@ -532,7 +551,7 @@ impl Opened {
 
 // ---- A host ----
 
-/// A host whose threads write. It is closed when it is dropped.
+/// A host with its threads. If it is dropped, it is closed, as [`Host::close`] does.
 #[derive(Debug)]
 pub struct Host {
     shared: Arc<Shared>,
@@ -544,33 +563,34 @@ struct Shared {
     settings: Settings,
     folder: Folder,
     state: Mutex<State>,
-    /// There may be something to write.
+    /// Signalled when there may be something to write.
     work: Condvar,
-    /// Something was synced, or a log takes records again, or the host failed or is closing.
+    /// Signalled when something was synced, when a log takes records again, and when the host failed or is closing.
     done: Condvar,
 }
 
-/// What the lock guards.
+/// The values that the lock guards.
 #[derive(Debug)]
 struct State {
     keeper: Keeper,
-    /// The newest file of each worker's log. None: the next one follows, and until then no record is taken.
+    /// The newest file of each worker's log. If it is `None`, the next file is being made, and until then the log takes no
+    /// record.
     logs: Vec<Option<Log>>,
     /// The last stamp.
     last: u64,
-    /// Updates below it may be acknowledged.
+    /// All updates whose stamps are below this number may be acknowledged.
     below: u64,
-    /// The bytes of logs that were written since the last checkpoint began.
+    /// How many bytes of logs were written since the last checkpoint began.
     written: u64,
-    /// Threads that wait until the update with this stamp is durable.
+    /// The threads that wait, each until the update with this stamp is durable.
     waiters: Vec<(u64, Thread)>,
-    /// What failed first.
+    /// The first failure, if the host failed.
     failure: Option<HostError>,
     is_closing: bool,
 }
 
 impl State {
-    /// Appends to one of the logs. `Early`: its thread has to write first.
+    /// Appends an update to one of the logs. `Early`: the thread of this log has to write earlier records first.
     fn append(
         &mut self,
         log: usize,
@@ -592,18 +612,23 @@ impl Host {
         Ok(())
     }
 
-    /// Appends a put of these columns, whose numbers rise, to one of the logs, and returns its stamp. Call it in one step with
-    /// the change of the server's own table, so that a key's stamps rise in the order of its changes.
+    /// Appends a put of these columns of the key to a log, and returns the stamp of the update. `log` is the number of the
+    /// log, from 0 on and below [`Settings::logs`]. The numbers of the columns must rise. If the thread of the log has to
+    /// write earlier records first, the call waits for it. It does not wait until the update is durable: [`Host::wait`] does.
+    ///
+    /// Hold one lock while you make this call and change the key in the server's own table, so that the stamps of a key rise
+    /// in the order of its changes.
     pub fn put(&self, log: usize, key: &[u8], columns: &[Column]) -> Result<u64, KeeperError> {
         self.update(log, |keeper, log| keeper.put(log, key, columns))
     }
 
-    /// Appends a remove of the key, likewise.
+    /// Appends a remove of the key to a log. A remove takes all columns from the key. All else is as for [`Host::put`].
     pub fn remove(&self, log: usize, key: &[u8]) -> Result<u64, KeeperError> {
         self.update(log, |keeper, log| keeper.remove(log, key))
     }
 
-    /// Appends an erase of the columns with these numbers, which rise, likewise.
+    /// Appends an erase to a log. An erase takes the columns with these numbers from the key. The numbers must rise. All else
+    /// is as for [`Host::put`].
     pub fn erase(&self, log: usize, key: &[u8], numbers: &[u8]) -> Result<u64, KeeperError> {
         self.update(log, |keeper, log| keeper.erase(log, key, numbers))
     }
@@ -624,8 +649,9 @@ impl Host {
         stamp
     }
 
-    /// Waits until the update with this stamp, and all before, may be acknowledged or shown. Err: the host failed, and it may
-    /// be lost. If that was a write or a sync, restart the machine before the folder is opened again.
+    /// Waits until the update with this stamp and all earlier updates may be acknowledged, or shown to clients. An `Err` says
+    /// that the host failed, and then the update may be lost. If the host failed because of a write or a sync, restart the
+    /// machine before you open the folder again.
     pub fn wait(&self, stamp: u64) -> Result<(), HostError> {
         let mut state = self.shared.lock();
         while state.below <= stamp && state.failure.is_none() {
@@ -640,7 +666,7 @@ impl Host {
         }
     }
 
-    /// Syncs what was put, and ends the threads. Err: the host failed before.
+    /// Syncs all updates that were put, and ends the threads. An `Err` says that the host failed before.
     pub fn close(mut self) -> Result<(), HostError> {
         self.end();
         self.shared.lock().failure.take().map_or(Ok(()), Err)
@@ -669,12 +695,12 @@ impl Shared {
         self.state.lock().unwrap()
     }
 
-    /// Waits until this is so, or the host failed.
+    /// Waits until the condition `is_so` holds, or the host failed.
     fn wait(&self, condition: &Condvar, is_so: impl Fn(&State) -> bool) -> MutexGuard<'_, State> {
         condition.wait_while(self.lock(), |state| !is_so(state) && state.failure.is_none()).unwrap()
     }
 
-    /// Tells all threads that wait what is so now.
+    /// Wakes all threads whose wait is over.
     fn tell(&self, state: &mut State) {
         let State { below, waiters, failure, .. } = state;
         waiters.retain(|(stamp, thread)| {
@@ -687,7 +713,7 @@ impl Shared {
         self.done.notify_all();
     }
 
-    /// The host fails: nothing is acknowledged any more.
+    /// Notes that the host failed. From now on nothing is acknowledged any more.
     fn fail(&self, error: HostError) {
         let mut state = self.lock();
         state.keeper.failed();
@@ -699,21 +725,22 @@ impl Shared {
 
 // ---- Logs ----
 
-/// What the thread of a worker's log has.
+/// The values of the thread of one worker's log.
 struct Writer {
-    /// Which one of the logs it is.
+    /// The number of the log among the logs of the host.
     number: usize,
     file: File,
     size: u64,
-    /// The last stamp when the bytes that are synced were taken.
+    /// The last stamp of the host at the time of the last take that is synced.
     covered: u64,
-    /// The marks of the last takes, of which the mark that the file begins with is one.
+    /// The marks of the last takes. The mark at the beginning of the file counts as a take.
     marks: VecDeque<u64>,
     buffer: Buffer,
 }
 
 impl Writer {
-    /// Notes the mark of a take. The mark that the file begins with is not above the first one.
+    /// Notes the mark of a take. The mark at the beginning of the file is not above the mark of the first take, so the first
+    /// take notes its mark twice.
     fn note_mark(&mut self, mark: u64) {
         if self.marks.is_empty() {
             self.marks.push_back(mark);
@@ -724,15 +751,16 @@ impl Writer {
         self.marks.push_back(mark);
     }
 
-    /// Returns whether the log has to wait for the others: the mark of the take that was `AHEAD` takes ago is not below what
-    /// is acknowledged. The log that is behind all others never waits.
+    /// Returns whether the log has to wait for the other logs: the mark of the take `AHEAD` takes ago is not below what is
+    /// acknowledged. The log that is behind all others never waits.
     fn is_ahead(&self, below: u64) -> bool {
         self.marks.len() == AHEAD && self.marks[0] >= below
     }
 }
 
 impl Shared {
-    /// The thread of a log. Each update waits for all logs, so each log is synced after each.
+    /// Does the work of the thread of a log. Each update waits for all logs. So each log is synced after each update, also if
+    /// the update is in another log.
     fn write_log(&self, mut writer: Writer) -> Result<(), HostError> {
         loop {
             drop(self.wait(&self.work, |state| writer.covered < state.last || state.is_closing));
@@ -744,8 +772,8 @@ impl Shared {
         }
     }
 
-    /// Writes and syncs all that was appended to the log, and a mark beyond it, if there is room for one. If the log is full,
-    /// the next file follows.
+    /// Writes and syncs all that was appended to the log, with a mark after it, if there is room for a mark. If the file of
+    /// the log is full, the next file follows.
     fn commit(&self, writer: &mut Writer, mut state: MutexGuard<'_, State>) -> Result<(), HostError> {
         let last = state.last;
         let log = state.logs[writer.number].take().expect("its thread alone takes it");
@@ -789,22 +817,24 @@ impl Shared {
 
 // ---- Checkpoints ----
 
-/// A checkpoint in the making.
+/// A checkpoint that the host is making. [`Part::entry`] writes its entries.
 #[derive(Debug)]
 pub struct Part {
     file: File,
     writer: PartWriter,
     buffer: Buffer,
-    /// About this many bytes of entries are not written yet.
+    /// About how many bytes of entries are not written yet.
     waiting: usize,
-    /// Whether an entry was not written.
+    /// Whether an entry could not be written.
     is_lost: bool,
 }
 
 impl Part {
-    /// Writes the entry of a key: all columns that it has, whose numbers rise, read in one step with its version, the stamp of
-    /// its last update, or [`Opened::last`] if that was recovered. A key without columns has no entry. Each key is above the
-    /// last one, byte by byte. After an `Err` the checkpoint is given up, and nothing is deleted for it.
+    /// Writes the entry of one key to the checkpoint. `columns` are all columns that the key has, and their numbers must rise.
+    /// `version` is the stamp of the last update of the key, or [`Opened::last`] if the key was not updated since [`open`].
+    /// Read the columns and the version in one step, between two updates of the key. Write no entry for a key without columns.
+    /// Each key must be above the last one, compared byte by byte. After an `Err`, the host gives the checkpoint up, and
+    /// deletes nothing for it.
     pub fn entry(&mut self, version: u64, key: &[u8], columns: &[Column]) -> Result<(), HostError> {
         let written = self.append(version, key, columns);
         self.is_lost |= written.is_err();
@@ -825,7 +855,7 @@ impl Part {
         Ok(())
     }
 
-    /// Writes what the part has ready for its file.
+    /// Writes the bytes of the part that are ready for its file.
     fn write(&mut self) -> Result<(), HostError> {
         self.waiting = 0;
         let taken = self.writer.take(&mut self.buffer).of("a part")?;
@@ -834,7 +864,7 @@ impl Part {
 }
 
 impl Shared {
-    /// The thread of checkpoints.
+    /// Does the work of the thread of checkpoints.
     fn write_checkpoints(
         &self,
         mut standing: Option<u32>,
@@ -867,7 +897,7 @@ impl Shared {
         }
     }
 
-    /// Writes the part of a checkpoint to the file NAME.new. Returns the file, and the checkpoint's end.
+    /// Writes the part of a checkpoint to the file NAME.new. Returns this file, and the end of the checkpoint.
     fn make_part(
         &self,
         name: &str,
@@ -887,7 +917,8 @@ impl Shared {
         Ok((part.file, end))
     }
 
-    /// Deletes what the checkpoint on which the server stands makes old: the part before it, and segments.
+    /// Deletes the files that are old now, because the server stands on a newer checkpoint: the part of the checkpoint before,
+    /// and segments.
     fn delete_old(&self, older: Option<u32>) -> Result<(), HostError> {
         if let Some(number) = older {
             self.folder.delete(&name_of_part(number))?;
