@@ -871,6 +871,8 @@ static uint32_t append(struct log *log, const uint8_t *key, size_t key_length, c
 uint32_t mtr_host_put(mtr_host *host, unsigned log, const uint8_t *key, size_t key_length, const mtr_column *columns,
                       size_t column_count, uint64_t *stamp) {
     uint32_t status;
+    if (log >= host->count)
+        return MTR_WRONG;
     pthread_mutex_lock(&host->lock);
     while ((status = append(&host->logs[log], key, key_length, columns, column_count, stamp)) == MTR_EARLY)
         pthread_cond_wait(&host->done, &host->lock);

@@ -63,7 +63,7 @@ bool mtr_host_start(mtr_host *host);
  *
  * Hold one lock while you make this call and change the key in the server's own table, so that the stamps of a key rise in
  * the order of its changes. If the thread of the log has to write earlier records first, the call waits for it. Returns the
- * status of mtr_log_put, but never EARLY. */
+ * status of mtr_log_put, but never EARLY. WRONG: also if there is no such log. */
 uint32_t mtr_host_put(mtr_host *host, unsigned log, const uint8_t *key, size_t key_length, const mtr_column *columns,
                       size_t column_count, uint64_t *stamp);
 
