@@ -37,13 +37,15 @@ bool entry_at(unsigned number, struct entry *entry) {
     return number < KEYS;
 }
 
-/* Puts updates to two logs by turns, and ends. Its values are long, but for a server that does not make checkpoints. */
+/* Puts updates to two logs by turns, and ends. Half of the keys are put once, so that after a while they stand in checkpoints
+ * alone. Its values are long, but for a server that does not make checkpoints. */
 static bool serve(void) {
     uint64_t last = 0;
     bool is_done = host_open(2, trial->segment, trial->checkpoint, false, &last) && host_start();
     for (unsigned n = 0; n < trial->updates && is_done; n++) {
-        struct entry *entry = &table[n % KEYS];
-        snprintf(entry->key, sizeof entry->key, "key%02u", n % KEYS);
+        unsigned number = n < KEYS ? n : n % (KEYS / 2);
+        struct entry *entry = &table[number];
+        snprintf(entry->key, sizeof entry->key, "key%02u", number);
         snprintf(entry->value, sizeof entry->value, "%0*u", trial->checkpoint < MANY ? 199 : 10, n);
         is_done = host_put(n % 2, entry) && (!trial->waits || host_wait(entry->version));
         for (int turn = 0; turn < 100 && !trial->waits; turn++)
