@@ -13,7 +13,7 @@ from blocks import header_of, length_at, read_part, sealed
 from counting import count
 from damage import BEAT, PLAIN, WORKERS, make_store, store_of
 from formats import PUT, Update, columns_bytes, framed, header, mark, record
-from page import AS_TEXT, BROKEN, FIRST, LATE, NO_LOGS, TORN, WAYS, lines_of, name_of, shell
+from page import AS_TEXT, BROKEN, FIRST, LATE, MOVE, NO_LOGS, TORN, WAYS, lines_of, name_of, shell
 from stores import dump, dump_lines, run
 from torture import files_of, lay
 
@@ -208,6 +208,21 @@ def other_store(updates, last):
     return lambda files: files.update({"w9-0.mtl": content})
 
 
+def longer_old(files):
+    """Beside a segment is an old copy of it, with late updates that a start dropped."""
+    older("w4-2.mtl", 0.9, "w4-2-old.mtl")(files)
+    last = files.store.log("w4-2.mtl").last()
+    dropped = (record(Update(last + n, last + n, PUT, b"dropped%04d" % n, ((0, bytes(200)),))) for n in range(1, 500))
+    append("w4-2-old.mtl", b"".join(dropped))(files)
+
+
+def ends_in_zeros(files):
+    """The last record of a log is damaged, and its last byte is zero, but no power cut left that."""
+    last = files.store.log("w0-0.mtl").last() + 1
+    update = Update(last, last, PUT, b"k", ((0, bytes(256 - 24)),))
+    append("w0-0.mtl", record(update)[:-2] + b"\5\0")(files)
+
+
 def three_at_once(files):
     for name, share in ("w0-0.mtl", 0.3), ("w2-0.mtl", 0.5), ("w5-0.mtl", 0.8):
         files.put(name, files.at(name, share).begin, bytes(100))
@@ -272,6 +287,9 @@ DAMAGES = [
     Damage("a log twice", copied("w0-0.mtl", "w0-0-copy.mtl")),
     Damage("an old copy beside a log", older("w0-0.mtl", 0.5, "w0-0-old.mtl"), "not ours"),
     Damage("a segment twice", copied("w4-1.mtl", "w4-1-copy.mtl"), "doubled"),
+    Damage("an old copy of a segment", older("w4-1.mtl", 0.5, "w4-1-old.mtl"), "doubled"),
+    Damage("a longer old copy of a segment", longer_old, "doubled"),
+    Damage("a trailer that ends in zeros", ends_in_zeros, "record"),
     Damage("a folder named as a log", lambda files: files.update({"x.mtl": None}), "a folder"),
     Damage("a folder named as a part", lambda files: files.update({"x.mtc": None}), "a folder"),
     Damage("all logs gone", gone_all, NO_LOGS),
@@ -391,6 +409,16 @@ def most(ways):
     return max(ways, key=lambda way: int(way.get("survivors", -1)))
 
 
+def is_zeros(log):
+    """Whether most of what follows the records of a log are zeros, and no record does."""
+    return "next" not in log and int(log["zeros"]) * 2 > int(log["left"])
+
+
+def records_of(path):
+    """Returns the records of a log, without their numbers and places."""
+    return {line.split(b" # ")[0] for line in run("records", path)[1].splitlines()}
+
+
 class Step(NamedTuple):
     way: str
     command: str
@@ -405,12 +433,12 @@ class Operator:
         lay(self.dir, {name: content for name, content in files.items() if content is not None})
         for name in files.keys() - files_of(self.dir).keys():
             (self.dir / name).mkdir()
-        lay(work / "AWAY", {})
+        shutil.rmtree(work / "AWAY", ignore_errors=True)
         shutil.rmtree(work / "BACKUP", ignore_errors=True)
         shell(work, FIRST)
 
     def follow(self):
-        """Returns the ways. Each command is given twice, and must leave the same. At a second fault of a file it reads that."""
+        """Returns the ways. Each command is given twice, and must leave the same. A cut of a file that was repaired reads that."""
         ways, touched = [], set()
         for _ in range(MOST_STEPS):
             step = self.next_step()
@@ -419,10 +447,10 @@ class Operator:
             ways.append(step.way)
             for name in step.names:
                 command = step.command.replace("/F", f"/{name}")
-                command = command.replace("BACKUP/", "DIR/") if name in touched else command
+                command = command.replace("BACKUP/", "DIR/") if name in touched and "mtrecover cut" in command else command
                 ended = shell(self.work, command)
                 count(f"{command}: {ended}", ended[0] == 0)
-                if not command.startswith("mv "):
+                if "mv -n " not in command:
                     once, looks = files_of(self.dir), looks_at(self.dir)
                     again = shell(self.work, command)[0]
                     count(f"{command}, again", again == (3 if step.way == NO_LOGS else 0) and files_of(self.dir) == once)
@@ -438,7 +466,7 @@ class Operator:
         ignored = re.search(r"(?m)^mtrecover: \d+ names? ignored, as (\S+): ", said)
         if ignored:
             (name,) = [name for name in self.names if name in ignored[1]]
-            return Step("ignored", f"mv DIR/{ignored[1]} DIR/F", [name])
+            return Step("ignored", f"mv -n DIR/{ignored[1]} DIR/F", [name])
         if "mtrecover: no logs\n" in said:
             return Step(NO_LOGS, WAYS[NO_LOGS][0], [""])
         fault = re.search(r"(?m)^mtrecover: ((log|part) (\d+): .*)$", said)
@@ -452,7 +480,7 @@ class Operator:
         if " marks at or past the cutoff; " in refused:
             strangers = [log["file"] for log in logs if log["file"] not in self.names]
             if strangers:
-                return Step("not ours", "mv DIR/F AWAY", strangers)
+                return Step("not ours", MOVE, strangers)
             names = [logs[int(number)]["file"] for number in ends[0]["logs"].split(",")]
             return Step("late", WAYS[LATE][-1].replace(" T ", f" {ends[0]['end']} "), names)
         return None
@@ -462,14 +490,14 @@ class Operator:
         broken = re.search(r"(?m)^hint: (\S+): it is broken: ", said)
         if f"hint: {name}: each line feed" in said:
             return Step("as text", WAYS[AS_TEXT][0], [name])
-        if fault.endswith(("length", "trailer")) and log["zeros"] != "0" and "next" not in log:
+        if fault.endswith(("length", "trailer")) and is_zeros(log):
             return Step("zeros", WAYS["zeros"][0], [name])
         if what in ("record", "checksum"):
             skip = most([way for way in ways[::-1] if way["way"] in ("skip", "cut")])["way"] == "skip"
             return Step("record", WAYS[what][0] if skip else WAYS[what][0].replace(" --skip", ""), [name])
         stray = re.search(r"(?m)^hint: (\S+): without it checkpoint ", said)
         if what == "gap" and stray and stray[1] not in self.names:
-            return Step("not ours", "mv DIR/F AWAY", [stray[1]])
+            return Step("not ours", MOVE, [stray[1]])
         if what == "gap" and broken:
             return Step("broken", WAYS[BROKEN][0], [broken[1]])
         if what in ("header", "gap"):
@@ -478,10 +506,18 @@ class Operator:
             return Step(what, WAYS["header"][0].replace(" H ", f" {way['header']}{end} "), [name])
         if what == "doubled":
             both = [one for one in logs if [one.get(of) for of in ("worker", "segment")] == [log["worker"], log["segment"]]]
-            return Step("doubled", "rm -f DIR/F", [min(both, key=lambda one: int(one["bytes"]))["file"]])
+            return Step("doubled", MOVE, [self.surplus([one["file"] for one in both])])
         if log.get("reason") == "is":
-            return Step("a folder", "mv DIR/F AWAY", [name])
+            return Step("a folder", MOVE, [name])
         return Step(what, WAYS[what][0], [name])
+
+    def surplus(self, both):
+        """Returns which of two files is moved away: the one all of whose records the other one has, and more; otherwise the one
+        that has none of the server's names."""
+        has = {name: records_of(self.dir / name) for name in both}
+        strangers = [name for name in both if name not in self.names]
+        less = [name for name in both if all(has[name] < has[other] for other in both if other != name)]
+        return (less or strangers)[0]
 
 
 # ---- Trying ----
@@ -530,6 +566,19 @@ def go_on(damage, truth, folder, lost):
     return run("report", folder, "--strict")[0] == 4
 
 
+def try_saving(files, work):
+    """Saves what can be read of a file, and takes it, as the page says. Once saved it stays, whatever is in the folder then."""
+    folder, name = lay(work / "DIR", files), "w1-0.mtl"
+    lay(work / "BACKUP", {})
+    save = WAYS["source failed"][0].replace("/F", f"/{name}")
+    for bad in files[name], b"repaired":
+        (folder / name).write_bytes(bad)
+        count(f"{save}", shell(work, save)[0] == 0 and files_of(work / "BACKUP") == {f"{name}.dd": files[name]})
+    take = next(code for code in WAYS["source failed"] if code.startswith("cp ")).replace("/F", f"/{name}")
+    for _ in range(2):
+        count(take, shell(work, take)[0] == 0 and files_of(folder) == dict(files))
+
+
 def updates_of(store):
     return [update for log in store.logs for update in log.updates()]
 
@@ -548,6 +597,7 @@ def try_losses(work):
     try_each(IN_BLOCKS, Truth(updates_of(store), checkpoint.begin, checkpoint.entries), in_blocks(files))
     # Parts that old logs were deleted for, and that of a fresh start, in format 4.
     pruned = Files(store.pruned(), store.pruned().files())
+    try_saving(pruned, work)
     truth = Truth(updates_of(pruned.store), checkpoint.begin, checkpoint.entries)
     of_parts = [
         Damage("a bit of a length in a part", flip_entry("c3-1.mtc", truth), "broken"),
