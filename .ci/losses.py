@@ -573,7 +573,7 @@ def try_saving(files, work):
     save = WAYS["source failed"][0].replace("/F", f"/{name}")
     for bad in files[name], b"repaired":
         (folder / name).write_bytes(bad)
-        count(f"{save}", shell(work, save)[0] == 0 and files_of(work / "BACKUP") == {f"{name}.dd": files[name]})
+        count(save, shell(work, save)[0] == 0 and files_of(work / "BACKUP") == {f"{name}.dd": files[name]})
     take = next(code for code in WAYS["source failed"] if code.startswith("cp ")).replace("/F", f"/{name}")
     for _ in range(2):
         count(take, shell(work, take)[0] == 0 and files_of(folder) == dict(files))

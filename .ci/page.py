@@ -21,12 +21,11 @@ def name_of(fault):
 
 def read_page():
     """Returns the page's first commands, how it moves a file away, and what it has for each fault, and for zeros at the end."""
-    page, ways, last = (TOP / "docs/RUNBOOK.md").read_text(), {}, []
+    page, ways = (TOP / "docs/RUNBOOK.md").read_text(), {}
     for line in page.splitlines():
         if line.startswith(tuple("|`" + fault for fault in ("log ", TORN, LATE, AS_TEXT, BROKEN, NO_LOGS))):
             cells = re.findall(r"\|((?:`[^`]*`|[^|`])*)", line)
-            last = last if cells[2] == "likewise" else codes_in(cells[2])
-            ways["zeros" if "`zeros=`" in cells[0] else name_of(codes_in(cells[0])[0])] = last
+            ways["zeros" if "`zeros=`" in cells[0] else name_of(codes_in(cells[0])[0])] = codes_in(cells[2])
     move = re.search(r"To move F away, call `([^`]+)`", page)[1]
     return page.split("```\n")[1], move, ways
 
