@@ -81,10 +81,6 @@ still_fits w r bytes room lawful is few =
       ],
     )
 
--- no records are small
-pub none_small : IsSmall []
-none_small = record { records = []; spelled = refl; small = inl (omega arith) }
-
 -- ---- files of blocks
 
 joined_more : (bodies : List (List ℕ)) (body : List ℕ) → joined (bodies ++ body ∷ []) ≡ joined bodies ++ body

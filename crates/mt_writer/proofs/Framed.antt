@@ -47,7 +47,3 @@ unfolding in_file
 fewer mark room before old new b is room_is all =
     let first = all ∙ ap (λ (n : ℕ). take (n + before) old) room_is in
     ap (in_file mark) (ap (records_in mark) first ∙ first_records mark before old) ∙ ap (λ (x : Buffer). record x { records = take before x.records }) is
-
--- the records that stood before others are the first ones
-pub as_before : (before : ℕ) (b : Buffer) (more : List ℕ) → before ≡ length b.records → record b { records = take before (b.records ++ more) } ≡ b
-as_before before b more is = ap (λ (l : List ℕ). record b { records = l }) (take_at b.records more before (sym is))

@@ -87,8 +87,8 @@ impl Held {
         keep_room(self.mark, before, &mut self.bytes)
     }
 
-    /// Returns whether what follows the first `before` bytes stays: these are none, or all stand in a small block. If not,
-    /// it is dropped.
+    /// Keeps the record behind the first `before` bytes if no other one is held, or if a small block has room for all of them.
+    /// Otherwise drops it. Returns whether the record stays.
     pub fn stays_small(&mut self, before: usize) -> bool
         requires { before ≤ length self.old.records }
         ensures { MatchBool result ((self.new ≡ self.old) × ((before ≡ 0) ⊎ (length self.old.records ≤ SMALL_BODY)))

@@ -17,7 +17,7 @@ pub enum WriterFault {
     /// The file has no room for another record, or the log no number for another segment.
     #[error("the log is full")]
     Full,
-    /// With the record the block of those held would not be small: they must be taken first.
+    /// The record does not fit into the small block of the records that are held. So these must be taken first.
     #[error("a write is due")]
     Untaken,
     /// The version is 0.
