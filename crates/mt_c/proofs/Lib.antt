@@ -12,3 +12,4 @@ pub mod Pointers
 pub mod Seeks
 pub mod Stores
 pub mod Told
+pub mod Workers

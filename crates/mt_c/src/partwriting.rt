@@ -141,8 +141,8 @@ pub extern "C" fn mtr_part_end(writer: &mut Place, end: u64) -> u32
     }
 }
 
-/// Takes what is to be appended to the file of the part now. `buffer`, which is empty or holds earlier bytes, holds these
-/// from then on, and they are lent. `WRONG`: also if `buffer` holds something else.
+/// Takes what is to be appended to the file of the part now. The place `buffer` is empty, or holds bytes of an earlier call.
+/// It then holds the new bytes, which are lent to the caller. `WRONG`: also if `buffer` holds something else.
 #[unsafe(no_mangle)]
 pub extern "C" fn mtr_part_take(
     alloc: Global,

@@ -140,9 +140,9 @@ pub extern "C" fn mtr_log_mark(keeper: &mut Place, log: usize) -> u32
     }
 }
 
-/// Takes all that was appended to the log since the last call, to be appended to its file by one write: a small block.
-/// `buffer`, which is empty or holds earlier bytes, holds these from then on, and they are lent. `EARLY`: the earlier ones are not synced.
-/// `WRONG`: also if `buffer` holds something else.
+/// Takes all that was appended to the log since the last call, to be appended to its file by one write: a small block. The
+/// place `buffer` is empty, or holds bytes of an earlier call. It then holds the new bytes, which are lent to the caller.
+/// `EARLY`: the bytes of the last call are not synced. `WRONG`: also if `buffer` holds something else.
 #[unsafe(no_mangle)]
 pub extern "C" fn mtr_log_take(
     alloc: Global,

@@ -1,13 +1,14 @@
-use Rattle.std.proofs.Common.{◌≡◌, ◌∙◌, ℕ, map, Some, refl, sym, ap, subst, ◌⊎◌, inl, inr, ◌++◌, ◌∷◌, []}
+use Rattle.std.proofs.Common.{◌≡◌, ◌∙◌, ℕ, map, Some, refl, sym, ap, subst}
 use Rattle.std.specs.Prelude.{IsSome}
 use Rattle.std.specs.Arc.{arc_value}
 use Rattle.mt_words.specs.declared.update.Kind.TheVariants as kinds
 use Rattle.mt_record.specs.Given.{column_of}
-use Rattle.mt_keeper.specs.Crews.{CrewView, LentView, HasDone, spent}
+use Rattle.mt_keeper.specs.Crews.{CrewView, LentView, HasDone}
 use Rattle.mt_keeper.specs.Refusals.{LentTakesNot}
 use Rattle.mt_c.specs.Borrowing.{BorrowerView}
 use Rattle.mt_c.specs.Loans.{Did}
 use Rattle.mt_c.specs.Keepers.{HoldsBorrower, HoldsDeeds}
+use Rattle.mt_c.proofs.Workers.{did_at_most}
 use Rattle.mt_c.proofs.working.mtr_worker_put.Goals as goal
 
 pub returns-in-Err-clause-why : goal.returns-in-Err-clause-why
@@ -30,7 +31,4 @@ returns-in-Err-clause-kept c = λ crew number deeds holds not_done.
     let err = c.in-Err.ensures.err deeds (subst (λ (x : CrewView). HasDone x.before inside.log deeds) (sym own) did.2) in
     let after : BorrowerView = record { crew = arc_value inside.crew; number = inside.number; log = c.put.new.log } in
     let is = c.borrower_mut.follows.holds after (subst IsSome (sym c.in-Some.is) refl) in
-    rw is (elim err as (λ _. Did crew number deeds after ⊎ Did crew number (deeds ++ spent ∷ []) after) [
-      | inl same ↦ inl (did.0, did.1, subst (λ (x : CrewView). HasDone x.before c.put.new.log deeds) own same)
-      | inr more ↦ inr (did.0, did.1, subst (λ (x : CrewView). HasDone x.before c.put.new.log (deeds ++ spent ∷ [])) own more)
-    ])
+    rw is (did_at_most c.deref.result.now crew number deeds after did.0 did.1 own err)
