@@ -1,4 +1,4 @@
-/* Counts its runs in the folder `data`, and no crash takes back a count that it printed: a small program over library/host.c.
+/* Counts its runs in the folder `data`, and no crash takes back a count that it printed: a small program over hosts/host.c.
  * examples/server.c is a server with clients. */
 #define _POSIX_C_SOURCE 200809L
 #include "mtrecover_host.h"

@@ -1,5 +1,5 @@
-//! Links libmtrecover.a of the folder MTRECOVER_LIB; or else of the package's folder `lib`, where `./install` puts it; or else
-//! of `out` at the top of the repository, where the gate leaves it.
+//! Links libmtrecover.a of the folder MTRECOVER_LIB; or else of the package's folder `lib`, where `tools/install` puts it; or
+//! else of `out` at the top of the repository, where the gate leaves it.
 use std::env;
 use std::path::PathBuf;
 
@@ -16,7 +16,7 @@ fn main() {
     println!("cargo:rerun-if-changed={}", archive.display());
     assert!(
         archive.exists(),
-        "no {}: `./install --library PREFIX`, then set MTRECOVER_LIB=PREFIX/lib",
+        "no {}: `tools/install --library PREFIX`, then set MTRECOVER_LIB=PREFIX/lib",
         archive.display()
     );
     println!("cargo:rustc-link-search=native={}", folder.display());

@@ -195,7 +195,7 @@ class Library(Folders):
 
     def test_the_package_declares_the_headers_arguments(self) -> None:
         """The functions that the package calls have as many arguments as in the header, where that is there."""
-        header = Path(__file__).parents[3] / "library/mtrecover.h"
+        header = Path(__file__).parents[3] / "include/mtrecover.h"
         if not header.exists():
             self.skipTest("mtrecover.h is not there")
         found = re.findall(r"^\w+ (mtr_\w+)\(([^)]*)\);", re.sub(r"/\*.*?\*/", "", header.read_text(), flags=re.S), re.M)

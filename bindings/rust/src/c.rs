@@ -1,4 +1,4 @@
-//! `library/mtrecover.h`, as it is.
+//! `include/mtrecover.h`, as it is.
 
 use core::cell::UnsafeCell;
 use core::ffi::c_void;

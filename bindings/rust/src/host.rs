@@ -5,7 +5,7 @@
 //! A server calls [`open`], copies the recovered store into its own table, and calls [`Opened::start`]. Then its threads call
 //! [`Host::put`] and [`Host::wait`]. At the end it calls [`Host::close`]. README.md has a complete program.
 //!
-//! The host does the same as `library/host.c`. It rests on functions of the library that are proved. The host itself is tested
+//! The host does the same as `hosts/host.c`. It rests on functions of the library that are proved. The host itself is tested
 //! and not proved: read it before you rely on it.
 //!
 //! The folder has these files:

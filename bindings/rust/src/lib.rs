@@ -4,7 +4,7 @@
 //! their columns. The files of a checkpoint are its *parts*. After a crash, recovery makes the [`Store`] from the bytes of the
 //! logs and parts, or it names the one [`Fault`] why there is no store.
 //!
-//! This crate gives safe types to the functions of `library/mtrecover.h`. For these C functions it is proved what they answer
+//! This crate gives safe types to the functions of `include/mtrecover.h`. For these C functions it is proved what they answer
 //! and write, if the caller keeps their duties. The types of this crate keep the duties. That they do so is tested, not
 //! proved.
 //!

@@ -1,4 +1,4 @@
-//! The host over a folder. `.ci/try_hosts` plays its lives.
+//! The host over a folder. `tests/hosts/run` plays its lives.
 
 use mtrecover::host::{self, Host, HostError, Part, Settings};
 use mtrecover::records::{self, Column, Format};

@@ -1,4 +1,4 @@
-//! The keeper of logs: what its types let a server do. What its calls answer is proved, and `library/test.c` shows it.
+//! The keeper of logs: what its types let a server do. What its calls answer is proved, and `tests/library/test.c` shows it.
 
 use mtrecover::keeper::{Buffer, Keeper, KeeperError, Log, NewLog, PartWriter, Resuming, Segment, Worker};
 use mtrecover::records::{self, Column, Format};
