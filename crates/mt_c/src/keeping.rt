@@ -1,12 +1,12 @@
 //! The keeper of a server's logs: its first log, further ones, and what may be acknowledged.
-ghost use Rattle.std.specs.Prelude.{◌≡◌, ◌≢◌, ◌⊎◌, ◌<◌, ◌∷◌, [], None, IsTrue, Contains, length};
+ghost use Rattle.std.specs.Prelude.{◌≡◌, ◌≢◌, ◌⊎◌, ◌+◌, ◌<◌, ◌∷◌, [], None, IsTrue, Contains, length};
 ghost use Rattle.mt_words.specs.declared.update.Update.{Update};
 ghost use Rattle.mt_writer.specs.Journals.{NewFile};
 ghost use Rattle.mt_laws.specs.Writing.{Server, Called, AllReached, files_there, updates_of};
 ghost use Rattle.mt_keeper.specs.Keeping.{Keeping, numbered, Holds as IsHeldBy};
 ghost use Rattle.mt_keeper.specs.declared.keeper.Stage.TheVariants.{Coming};
 ghost use Rattle.mt_keeper.specs.Calling.{with_new_log, with_created, acknowledged, first};
-ghost use Rattle.mt_keeper.specs.Filing.{BeginsFile, next_salt};
+ghost use Rattle.mt_keeper.specs.Filing.{workers_created, BeginsFile, next_salt};
 ghost use Rattle.mt_keeper.specs.Refusals.{IsAt, HasFailed, IsNotComing, BeginsNone};
 ghost use Rattle.mt_c.specs.Buffers.{Writes};
 ghost use Rattle.mt_c.specs.Formats.{log_header_4};
@@ -48,7 +48,7 @@ pub extern "C" fn mtr_keeper_begin(alloc: Global, keeper: &mut Place, salt: u64)
 pub extern "C" fn mtr_log_begin(alloc: Global, keeper: &mut Place, log: &mut usize) -> u32
     ensures done { (s : Server) (k : Keeping) → HoldsServer s keeper.old.handle.value → HoldsKeeper (λ held. held ≡ k) keeper.old.handle.value → result ≡ DONE →
         (log.new ≡ length (numbered s)) × HoldsAfter s (with_new_log s k.workers) keeper.new.handle.value }
-    ensures file { (k : Keeping) → HoldsKeeper (λ held. held ≡ k) keeper.old.handle.value → result ≡ DONE → HoldsKeeper (λ after. BeginsFile k after log.new) keeper.new.handle.value }
+    ensures file { (k : Keeping) → HoldsKeeper (λ held. held ≡ k) keeper.old.handle.value → result ≡ DONE → HoldsKeeper (λ after. BeginsFile k after (workers_created k.logs + 1) log.new) keeper.new.handle.value }
     ensures kept { result ≢ DONE → keeper.new.handle.value ≡ keeper.old.handle.value }
     ensures untold { result ≢ DONE → log.new ≡ log.old }
     ensures why { result ≢ DONE → IsRefusal BeginsNone keeper.old.handle.value result }

@@ -4,7 +4,7 @@ ghost use Rattle.mt_laws.specs.Writing.{Server};
 ghost use Rattle.mt_keeper.specs.declared.keeper.Log.{Log as Entry};
 ghost use Rattle.mt_keeper.specs.Keeping.{Keeping, numbered, MayGo};
 ghost use Rattle.mt_keeper.specs.Calling.{StepsToNext, with_going, with_gone};
-ghost use Rattle.mt_keeper.specs.Filing.{BeginsFile};
+ghost use Rattle.mt_keeper.specs.Filing.{workers_created, BeginsFile};
 ghost use Rattle.mt_keeper.specs.Refusals.{HasFailed, HasNoNext, IsNotWhole, IsNotGoing};
 ghost use Rattle.mt_c.specs.Holding.{Holds};
 ghost use Rattle.mt_c.specs.Keepers.{keeper_answers, HoldsKeeper, HoldsServer, HoldsAfter, IsKeeper, IsFirst, IsRefusal};
@@ -66,7 +66,7 @@ pub extern "C" fn mtr_log_rotate(
 ) -> u32
     ensures done { (s : Server) → HoldsServer s keeper.old.handle.value → result ≡ DONE →
         (next.new ≡ length (numbered s)) × HoldsKeeper (StepsToNext s log) keeper.new.handle.value }
-    ensures file { (k : Keeping) → HoldsKeeper (λ held. held ≡ k) keeper.old.handle.value → result ≡ DONE → HoldsKeeper (λ after. BeginsFile k after next.new) keeper.new.handle.value }
+    ensures file { (k : Keeping) → HoldsKeeper (λ held. held ≡ k) keeper.old.handle.value → result ≡ DONE → HoldsKeeper (λ after. BeginsFile k after (workers_created k.logs) next.new) keeper.new.handle.value }
     ensures kept { result ≢ DONE → keeper.new.handle.value ≡ keeper.old.handle.value }
     ensures untold { result ≢ DONE → next.new ≡ next.old }
     ensures why { (s : Server) → HoldsServer s keeper.old.handle.value → result ≢ DONE →

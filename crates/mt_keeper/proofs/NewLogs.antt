@@ -1,5 +1,5 @@
 -- New logs.
-use Rattle.std.proofs.Common.{◌≡◌, inl, inr, ℕ, suc, ◌+◌, ◌<◌, ◌≤◌, true, false, Option, None, Some, IfSome, List, [], ◌∷◌, ◌++◌, length, map, slice_set, Contains, refl, sym, ap, ◌∙◌, subst, arith}
+use Rattle.std.proofs.Common.{◌≡◌, inl, inr, ℕ, suc, ◌+◌, ◌-◌, ◌^◌, ◌<◌, ◌≤◌, min, true, false, Option, None, Some, IfSome, List, [], ◌∷◌, ◌++◌, length, map, slice_set, Contains, refl, sym, ap, ◌∙◌, subst, arith}
 use Rattle.std.specs.Prelude.{slice_get}
 use Rattle.std.specs.List.{AllZip}
 use Rattle.std.proofs.lemmas.Bool.{false≢true}
@@ -235,12 +235,12 @@ last_log [] log = refl
 last_log (x ∷ logs) log = last_log logs log
 
 -- the log that was added last is to be created
-pub begins_last : (before after : Keeping) (number : ℕ) (logs : List Log) (log : Log) (new : NewFile) → after.logs ≡ logs ++ log ∷ [] → number ≡ length logs → log.stage ≡ Coming new
-    → new.header.salt ≡ before.salt → new.header.workers ≡ after.workers → after.salt ≡ next_salt before.salt → BeginsFile before after number
-begins_last before after number logs log new all at is salt workers next = record {
+pub begins_last : (before after : Keeping) (workers number : ℕ) (logs : List Log) (log : Log) (new : NewFile) → after.logs ≡ logs ++ log ∷ [] → number ≡ length logs → log.stage ≡ Coming new
+    → new.header.salt ≡ before.salt → new.header.workers ≡ min workers (2 ^ 32 - 1) → after.salt ≡ next_salt before.salt → BeginsFile before after workers number
+begins_last before after workers number logs log new all at is salt said next = record {
   new = new;
   stands = record { log = log; stands = (λ i. slice_get (all i) (at i)) ∙ last_log logs log; is = is };
   salt = salt;
-  workers = workers;
+  workers = said;
   next = next;
 }

@@ -1,7 +1,10 @@
--- The bytes of the files of logs, and the salts of new ones.
-use Rattle.std.specs.Prelude.{◌≡◌, ℕ, ◌+◌, ◌%◌, ◌^◌, List}
+-- The bytes of the files of logs, and the headers of new ones.
+use Rattle.std.specs.Prelude.{◌≡◌, ℕ, ◌+◌, ◌-◌, ◌%◌, ◌^◌, min, nat_lt, Bool, true, false, Option, Some, None, List, length, filter}
+use Rattle.mt_record.specs.declared.feed.head.Segment.{Segment}
 use Rattle.mt_writer.specs.Journals.{Journal, Writer, NewFile, IsFileOf}
-use Rattle.mt_keeper.specs.declared.keeper.Stage.TheVariants.{Coming, Writing}
+use Rattle.mt_keeper.specs.declared.keeper.Stage.{Stage}
+use Rattle.mt_keeper.specs.declared.keeper.Stage.TheVariants.{Coming, Writing, Followed, Going, Gone}
+use Rattle.mt_keeper.specs.declared.keeper.Log.{Log}
 use Rattle.mt_keeper.specs.Keeping.{Keeping}
 use Rattle.mt_keeper.specs.Refusals.{IsAt}
 
@@ -15,10 +18,26 @@ pub record HasFile (keeper : Keeping) (number : ℕ) (j : Journal) (file : List 
 abbrev pub next_salt : ℕ → ℕ
 next_salt salt = (salt + 1) % 2 ^ 64
 
--- The file of this number is to be created, with the salt that was the next one, and the number of workers. The next salt is another.
-pub record BeginsFile (before after : Keeping) (number : ℕ) : Type 0 where
+-- whether this is the newest file of a worker of which a file was created: it is written, or it is to follow a segment that was
+abbrev pub has_created : Log → Bool
+has_created log = by log.stage log.segment
+  where
+    by : Stage → Option Segment → Bool
+    by (Writing writer) segment = true
+    by (Coming new) (Some segment) = nat_lt 0 segment.number
+    by (Coming new) None = false
+    by (Followed last) segment = false
+    by Going segment = false
+    by Gone segment = false
+
+-- the number of workers of which a file was created
+abbrev pub workers_created : List Log → ℕ
+workers_created logs = length (filter has_created logs)
+
+-- The file of this number is to be created, with the salt that was the next one, and this number of workers, or 2 ^ 32 - 1 if that is less. The next salt is another.
+pub record BeginsFile (before after : Keeping) (count number : ℕ) : Type 0 where
   pub new : NewFile
   pub stands : IsAt after number (Coming new)
   pub salt : new.header.salt ≡ before.salt
-  pub workers : new.header.workers ≡ after.workers
+  pub workers : new.header.workers ≡ min count (2 ^ 32 - 1)
   pub next : after.salt ≡ next_salt before.salt

@@ -1,18 +1,19 @@
 //! Begins the logs of new workers.
-ghost use Rattle.std.specs.Prelude.{◌≡◌, ◌⊎◌, ◌∷◌, ◌++◌, [], true, Some, Err, length, IfOk, IfErr, OnOk, OnErr};
+ghost use Rattle.std.specs.Prelude.{◌≡◌, ◌⊎◌, ◌+◌, ◌∷◌, ◌++◌, [], true, Some, Err, length, IfOk, IfErr, OnOk, OnErr};
 ghost use Rattle.mt_record.specs.declared.feed.head.Head.{Head as HeadValue};
 ghost use Rattle.mt_writer.specs.Journals.{NewFile, Begins, begun};
 ghost use Rattle.mt_writer.specs.declared.writer_fault.WriterFault.TheVariants.{Failed};
 ghost use Rattle.mt_laws.specs.Writing.{Server};
 ghost use Rattle.mt_keeper.specs.Keeping.{Holds, numbered};
 ghost use Rattle.mt_keeper.specs.Calling.{Steps, with_new_log, with_created};
-ghost use Rattle.mt_keeper.specs.Filing.{BeginsFile, HasFile};
+ghost use Rattle.mt_keeper.specs.Filing.{workers_created, BeginsFile, HasFile};
 ghost use Rattle.mt_keeper.specs.declared.keeper.Stage.TheVariants.{Coming};
 ghost use Rattle.mt_keeper.specs.Refusals.{IsAt, HasFailed, IsNotComing, BeginsNone};
 ghost use Rattle.mt_keeper.specs.declared.keeper_fault.KeeperFault.TheVariants as faults;
 
 use crate::keeper::{Keeper, Log, Stage};
 use crate::keeper_fault::KeeperFault;
+use crate::segments::workers_created;
 use mt_block::Header;
 use mt_record::Segment;
 use mt_words::Memory;
@@ -22,10 +23,12 @@ use std::mem;
 
 impl Keeper {
     /// Begins the log of a new worker, with a mark at the next stamp, and returns its number. Its file is to be created
-    /// (`bytes`). From now on acknowledgements wait for this log. Err: no log is begun.
+    /// (`bytes`). Its header counts this worker and those of which a file was created: whatever a crash leaves of the folder,
+    /// it has files of as many workers, if it has this one. From now on acknowledgements wait for this log. Err: no log is
+    /// begun.
     pub fn begin_log(&mut self, alloc: Global) -> Result<usize, KeeperFault>
         ensures step { (s : Server) → Holds self.old s → IfOk result (λ log. (log ≡ length (numbered s)) × Steps s (with_new_log s self.old.workers) self.new) }
-        ensures file { IfOk result (BeginsFile self.old self.new) }
+        ensures file { IfOk result (BeginsFile self.old self.new (workers_created self.old.logs + 1)) }
         ensures err { OnErr result (self.new ≡ self.old) }
         ensures failed { self.old.failed ≡ true → result ≡ Err (faults.Writer Failed) }
         ensures fault { IfErr result (BeginsNone self.old) }
@@ -39,7 +42,7 @@ impl Keeper {
             salt: self.salt,
             worker,
             segment: 0,
-            workers,
+            workers: workers_created(&self.logs).saturating_add(1),
             from: 0,
         };
         let new = NewLog::begin(alloc, header, mark)?;

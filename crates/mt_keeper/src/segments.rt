@@ -1,5 +1,5 @@
 //! Follows a segment of a log by the next one.
-ghost use Rattle.std.specs.Prelude.{◌≡◌, ◌⊎◌, ◌+◌, ◌<◌, ◌^◌, true, Some, None, Err, length, slice_get, IfOk, IfErr, OnErr};
+ghost use Rattle.std.specs.Prelude.{◌≡◌, ◌⊎◌, ◌+◌, ◌-◌, ◌<◌, ◌^◌, min, true, Some, None, Err, length, slice_get, IfOk, IfErr, OnErr};
 ghost use Rattle.mt_record.specs.Encoding.{segment_head};
 ghost use Rattle.mt_writer.specs.Journals.{Journal, NewFile, Keeps, Begins, IsSealed};
 ghost use Rattle.mt_writer.specs.Refusing.{MayNotSeal};
@@ -8,7 +8,7 @@ ghost use Rattle.mt_laws.specs.Writing.{Server, Stands};
 ghost use Rattle.mt_keeper.specs.declared.keeper.Log.{Log as Entry};
 ghost use Rattle.mt_keeper.specs.Keeping.{Holds, numbered, IsFollowedBy};
 ghost use Rattle.mt_keeper.specs.Calling.{StepsToNext};
-ghost use Rattle.mt_keeper.specs.Filing.{BeginsFile};
+ghost use Rattle.mt_keeper.specs.Filing.{has_created, workers_created, BeginsFile};
 ghost use Rattle.mt_keeper.specs.Refusals.{HasFailed, HasNoNext, IsNotWhole, IsUnsealable};
 ghost use Rattle.mt_keeper.specs.declared.keeper.Stage.TheVariants.{Coming};
 ghost use Rattle.mt_keeper.specs.declared.keeper_fault.KeeperFault.TheVariants as faults;
@@ -38,7 +38,7 @@ impl Keeper {
     /// all of its records are synced.
     pub fn begin_segment(&mut self, alloc: Global, log: usize) -> Result<usize, KeeperFault>
         ensures step { (s : Server) → Stands s → Holds self.old s → IfOk result (λ next. (next ≡ length (numbered s)) × StepsToNext s log self.new) }
-        ensures file { IfOk result (BeginsFile self.old self.new) }
+        ensures file { IfOk result (BeginsFile self.old self.new (workers_created self.old.logs)) }
         ensures err { OnErr result (self.new ≡ self.old) }
         ensures failed { self.old.failed ≡ true → result ≡ Err (faults.Writer writer_faults.Failed) }
         ensures fault { (s : Server) → Holds self.old s → IfErr result (λ fault.
@@ -52,7 +52,7 @@ impl Keeper {
         }
         let number = self.logs.len();
         let salt = self.salt;
-        let workers = self.workers;
+        let workers = workers_created(&self.logs);
         let Some(log) = self.logs.get_mut(log) else {
             return Err(KeeperFault::Log);
         };
@@ -68,7 +68,19 @@ impl Keeper {
 }
 
 impl Log {
-    /// Seals the file, and begins the next segment, with this salt, of a server with this number of workers. Err: the log is as
+    /// Returns whether this is the newest file of a worker of which a file was created: it is written, or it is to follow a
+    /// segment that was.
+    fn has_created(&self) -> bool
+        ensures { result ≡ has_created self.now }
+    {
+        match (&self.stage, self.segment) {
+            (Stage::Writing(_), _) => true,
+            (Stage::Coming(_), Some(segment)) => segment.number > 0,
+            _ => false,
+        }
+    }
+
+    /// Seals the file, and begins the next segment, with this salt, whose header says this number of workers. Err: the log is as
     /// it was.
     fn follow(&mut self, alloc: Global, salt: u64, workers: u32) -> Result<Log, KeeperFault>
         ensures ok { IfOk result (IsFollowedBy self.old self.new) }
@@ -108,6 +120,14 @@ impl Log {
             }
         }
     }
+}
+
+/// Counts the workers of which a file was created, up to 2^32 - 1. Each has one newest file.
+pub(crate) fn workers_created(logs: &[Log]) -> u32
+    ensures { result ≡ min (workers_created logs.now) (2 ^ 32 - 1) }
+{
+    let count = logs.iter().filter(|log| log.has_created()).count();
+    count.min(u32::MAX as usize) as u32
 }
 
 /// Seals the file of this header's segment, and begins the next one. Err: the writer as it was.

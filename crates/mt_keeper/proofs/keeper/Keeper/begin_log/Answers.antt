@@ -4,7 +4,7 @@ use Rattle.mt_record.specs.Encoding.{segment_head}
 use Rattle.mt_writer.specs.Journals.{Begins}
 use Rattle.mt_keeper.specs.Keeping.{Keeping, Holds}
 use Rattle.mt_keeper.specs.Calling.{with_new_log}
-use Rattle.mt_keeper.specs.Filing.{next_salt}
+use Rattle.mt_keeper.specs.Filing.{workers_created, next_salt}
 use Rattle.mt_keeper.proofs.NewLogs.{new_log, begins_log, begins_last}
 use Rattle.mt_keeper.proofs.keeper.Keeper.begin_log.Goals as goal
 
@@ -29,8 +29,8 @@ returns-clause-file c =
     let k = c.args.self.now in
     let new = c.in_ok-new.new in
     let added = c.self-2.view_is ∙ c.in_ok-add.ensures.ok in
-    begins_last k _ _ k.logs (new_log c.self.inside.workers new) new (ap (λ (y : Keeping). y.logs) added)
+    begins_last k _ (workers_created k.logs + 1) _ k.logs (new_log c.self.inside.workers new) new (ap (λ (y : Keeping). y.logs) added)
     (omega (arith, c.len-log.ensures, c.self.inside.logs.ok.0, ap (λ (y : Keeping). length y.logs) c.self.view_is)) refl
     (ap (λ (h : Header). h.salt) c.in_ok-new.ensures.header ∙ ap (λ (y : Keeping). y.salt) c.self.view_is)
-    (ap (λ (h : Header). h.workers) c.in_ok-new.ensures.header)
+    (omega (arith, ap (λ (h : Header). h.workers) c.in_ok-new.ensures.header, c.saturating_add.ensures, c.workers_created.ensures, ap workers_created c.deref.ensures.value, ap (λ (y : Keeping). workers_created y.logs) c.self.view_is))
     (ap (λ (y : Keeping). next_salt y.salt) added)

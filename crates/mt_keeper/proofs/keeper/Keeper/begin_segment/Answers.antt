@@ -5,7 +5,7 @@ use Rattle.mt_keeper.specs.declared.keeper.Log.{Log}
 use Rattle.mt_keeper.specs.contracts.keeper.Keeper.{the_view}
 use Rattle.mt_keeper.specs.Keeping.{Keeping, Holds, numbered, IsLogOf}
 use Rattle.mt_keeper.specs.Calling.{StepsToNext}
-use Rattle.mt_keeper.specs.Filing.{next_salt}
+use Rattle.mt_keeper.specs.Filing.{workers_created, next_salt}
 use Rattle.mt_keeper.proofs.NewLogs.{begins_last}
 use Rattle.mt_keeper.proofs.OneChanged.{reads}
 use Rattle.mt_keeper.proofs.Following.{followed_by, not_followed}
@@ -33,10 +33,11 @@ returns-in-Ok-clause-file c =
     let after = c.follow.new.self in
     let next = c.in-Ok.next in
     let begun = c.in-Ok.ensures.header in
-    begins_last c.args.self.now _ _ (slice_set k.logs c.args.log after) next begun.0
+    begins_last c.args.self.now _ (workers_created c.args.self.now.logs) _ (slice_set k.logs c.args.log after) next begun.0
     (c.push_reserved.ensures.items ∙ ap (λ (logs : List Log). slice_set logs c.args.log after ++ next ∷ []) c.reserve.ensures.items)
     (omega (arith, c.len-number.ensures, ap length c.reserve.ensures.items, length-set k.logs c.args.log after)) begun.1
-    (begun.2 ∙ ap (λ (y : Keeping). y.salt) c.self.view_is) begun.3
+    (begun.2 ∙ ap (λ (y : Keeping). y.salt) c.self.view_is)
+    (omega (arith, begun.3, c.workers_created-workers.ensures, ap workers_created (c.deref.ensures.value ∙ c.reserve.ensures.items), ap (λ (y : Keeping). workers_created y.logs) c.self.view_is))
     (ap (λ (y : Keeping). next_salt y.salt) c.self.view_is)
 
 pub returns-in-Err-clause-fault : goal.returns-in-Err-clause-fault
