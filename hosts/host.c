@@ -582,23 +582,24 @@ static bool add_log(mtr_host *host, size_t number, int file, uint64_t size, bool
 }
 
 /* Makes the bytes that replace a log, in place of its own. No file is changed. */
-static bool resume(struct left *log, uint64_t cutoff, uint64_t salt) {
+static bool resume(struct left *log, const mtr_report *report, uint64_t salt) {
     char name[NAME];
     size_t room = log->length + log->length / 1024 + NEW, size = 0;
     uint8_t *bytes = malloc(room);
     name_log(log->worker, log->segment, name);
     if (!did(bytes != NULL, name))
         return false;
-    bool is_made = is_done(mtr_resume_log(log->bytes, log->length, cutoff, salt, &log->resumed, bytes, room, &size), name);
+    uint32_t workers = (uint32_t)report->writers, status;
+    status = mtr_resume_log(log->bytes, log->length, report->cutoff, salt, workers, &log->resumed, bytes, room, &size);
     free(log->bytes);
     log->bytes = bytes;
     log->length = size;
-    return is_made && (!log->resumed.ended || says(name, "is ended"));
+    return is_done(status, name) && (!log->resumed.ended || says(name, "is ended"));
 }
 
-static bool resume_all(const mtr_host *host, struct found *found, uint64_t cutoff) {
+static bool resume_all(const mtr_host *host, struct found *found, const mtr_report *report) {
     for (size_t n = 0; n < found->log_count; n++)
-        if (!resume(&found->logs[n], cutoff, host->salt + n))
+        if (!resume(&found->logs[n], report, host->salt + n))
             return false;
     return true;
 }
@@ -826,7 +827,7 @@ mtr_host *mtr_host_open(const mtr_host_settings *settings, mtr_place *store, uin
     host->folder = open(settings->folder, O_RDONLY | O_DIRECTORY | O_CLOEXEC);
     bool is_open = did(host->folder >= 0, settings->folder) && draw(&host->salt) && search(host, &found);
     if (is_open && found.log_count + found.part_count > 0)
-        is_open = recover(host, &found, store, &report) && resume_all(host, &found, report.cutoff) &&
+        is_open = recover(host, &found, store, &report) && resume_all(host, &found, &report) &&
                   may_go_on(host, &found, store, &report) && go_on(host, &found, store, &report);
     pthread_mutex_lock(&host->lock);
     is_open = is_open && begin_logs(host) && is_done(mtr_keeper_acknowledged(&host->keeper, &host->below), "the keeper");

@@ -236,7 +236,8 @@ typedef struct mtr_resumed {
  *
  * A log of format 4 is replaced by a file of format 4 with the salt `salt`, a random number that must be new for each file
  * (see the comment on formats, before mtr_log_header_4). Each block of this file has whole records: at most 32,768 bytes of
- * records, or one longer record.
+ * records, or one longer record. Its header says `workers`, the number of writers of the report. So later starts miss each
+ * worker whose logs are all lost, but not a worker without which the server went on already.
  *
  * Room for length + length / 1024 + 33 bytes is always enough: a mark has 17 bytes, a block has 16 bytes more than its
  * records, and two neighbouring blocks together have more than 32,768 bytes of records. If the server needs a new log as
@@ -244,8 +245,8 @@ typedef struct mtr_resumed {
  *
  * If the call returns DONE or SHORT, *resumed says what happens to the log. Otherwise *resumed is as before. FAULT: the bytes
  * are no log. Never WRONG. */
-uint32_t mtr_resume_log(const uint8_t *log, size_t length, uint64_t cutoff, uint64_t salt, mtr_resumed *resumed,
-                        uint8_t *out, size_t room, size_t *count);
+uint32_t mtr_resume_log(const uint8_t *log, size_t length, uint64_t cutoff, uint64_t salt, uint32_t workers,
+                        mtr_resumed *resumed, uint8_t *out, size_t room, size_t *count);
 
 /* Where a log ends. A server compares these facts of all its logs to find out whether more was lost than a crash loses. */
 typedef struct mtr_log_ending {
@@ -595,7 +596,8 @@ uint32_t mtr_crew_close(mtr_place *crew);
 
 /* Writes the header of a log of format 4, which has 44 bytes. Such a log is a segment. `worker` is the number of the worker
  * whose log it is, and `segment` is the number of the segment among the segments of this worker. `workers` is the number of
- * workers of the server. Updates below the timestamp `from` may be missing from the log. Never WRONG. */
+ * workers that have a file in the folder, this worker included: if a later start finds files of fewer workers, all files of
+ * a worker are lost. Updates below the timestamp `from` may be missing from the log. Never WRONG. */
 uint32_t mtr_log_header_4(uint64_t salt, uint32_t worker, uint32_t segment, uint32_t workers, uint64_t from, uint8_t *out,
                           size_t room, size_t *count, uint32_t *mark);
 
@@ -613,7 +615,7 @@ typedef struct mtr_log_front {
     uint32_t format;
     uint32_t worker;  /* in formats 3 and 4, the number of the worker; otherwise 0 */
     uint32_t segment; /* in formats 3 and 4, the number of the segment; otherwise 0 */
-    uint32_t workers; /* in format 4, the number of workers of the server; otherwise 0 */
+    uint32_t workers; /* in format 4, how many workers had a file when the log began, its own included; otherwise 0 */
     uint64_t from;    /* updates below this timestamp may be missing from the log */
     uint64_t salt;    /* in format 4, the salt; otherwise 0 */
     size_t length;    /* how many bytes the header has */

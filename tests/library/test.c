@@ -624,21 +624,21 @@ static void test_resume(void) {
     mtr_resumed resumed = {9, 9, 9, true, true};
     uint8_t out[256] = {9};
     size_t count = 0;
-    expect("a log is as it was", mtr_resume_log(examples[0].bytes, examples[0].length, 40, 8, &resumed, out, 256, &count) ==
+    expect("a log is as it was", mtr_resume_log(examples[0].bytes, examples[0].length, 40, 8, 3, &resumed, out, 256, &count) ==
                                      MTR_DONE && count == 138 && resumed.dropped == 0 && resumed.late_marks == 1 && !resumed.changed &&
                                      resumed.format == 1 && !resumed.ended && memcmp(out, examples[0].bytes, count) == 0);
-    expect("a log is replaced", mtr_resume_log(examples[1].bytes, examples[1].length, 41, 8, &resumed, out, 256, &count) ==
+    expect("a log is replaced", mtr_resume_log(examples[1].bytes, examples[1].length, 41, 8, 3, &resumed, out, 256, &count) ==
                                     MTR_DONE && count == 139 && resumed.dropped == 1 && resumed.late_marks == 1 && resumed.changed &&
                                     memcmp(out, examples[1].bytes, 122) == 0 && memcmp(out + 122, mark, 17) == 0);
     out[0] = 9;
     resumed.dropped = 9;
-    expect("short", mtr_resume_log(examples[1].bytes, examples[1].length, 40, 8, &resumed, out, 138, &count) == MTR_SHORT &&
+    expect("short", mtr_resume_log(examples[1].bytes, examples[1].length, 40, 8, 3, &resumed, out, 138, &count) == MTR_SHORT &&
                         count == 139 && resumed.dropped == 1 && out[0] == 9);
-    expect("no log", mtr_resume_log(text("x"), 1, 40, 8, &resumed, out, 256, &count) == MTR_FAULT && resumed.dropped == 1);
+    expect("no log", mtr_resume_log(text("x"), 1, 40, 8, 3, &resumed, out, 256, &count) == MTR_FAULT && resumed.dropped == 1);
     length = 0;
     append(mtr_segment_header(7, 2, 1, rest(), room(), &count), &count, 20);
     append(mtr_mark(UINT64_MAX, rest(), room(), &count), &count, 17);
-    expect("an ended segment", mtr_resume_log(file, length, 40, 8, &resumed, out, 256, &count) == MTR_DONE && count == 54 &&
+    expect("an ended segment", mtr_resume_log(file, length, 40, 8, 3, &resumed, out, 256, &count) == MTR_DONE && count == 54 &&
                                    resumed.format == 3 && resumed.ended && resumed.late_marks == 0);
 }
 
@@ -701,7 +701,7 @@ static void test_resume_small(void) {
     expect("a header", mtr_log_header_4(7, 0, 0, 1, 0, big, sizeof big, &count, &mark) == MTR_DONE && count == 44);
     expect("a block", mtr_seal(mark, body, size, big + 44, sizeof big - 44, &count) == MTR_DONE);
     size = 44 + count;
-    expect("it is replaced", mtr_resume_log(big, size, 41, 8, &resumed, out, size + size / 1024 + 33, &count) == MTR_DONE &&
+    expect("it is replaced", mtr_resume_log(big, size, 41, 8, 3, &resumed, out, size + size / 1024 + 33, &count) == MTR_DONE &&
                                  count == 44 + 40 * 6032 + 17 + 9 * 16);
     for (; at < count; at += 16 + number_at(out + at + 4), blocks++)
         expect("a small block", number_at(out + at + 4) <= 32768 && are_records(out + at + 12, number_at(out + at + 4)));
@@ -718,20 +718,23 @@ static void test_resume_blocks(void) {
     append(mtr_log_header_4(7, 2, 1, 3, 7, rest(), room(), &count, &mark), &count, 44);
     mtr_mark(UINT64_MAX, record, sizeof record, &count);
     append(mtr_seal(mark, record, sizeof record, rest(), room(), &count), &count, 33);
-    expect("it is replaced", mtr_resume_log(file, length, 5, 8, &resumed, out, sizeof out, &count) == MTR_DONE &&
+    expect("it is replaced", mtr_resume_log(file, length, 5, 8, 3, &resumed, out, sizeof out, &count) == MTR_DONE &&
                                  count == 44 + 16 + 34 && resumed.dropped == 0 && resumed.format == 4 && resumed.changed &&
                                  resumed.ended);
     expect("its header", mtr_log_header_4(8, 2, 1, 3, 5, again, sizeof again, &most, &mark) == MTR_DONE &&
                              memcmp(out, again, 44) == 0);
+    expect("fewer workers", mtr_resume_log(file, length, 5, 8, 2, &resumed, out, sizeof out, &count) == MTR_DONE &&
+                                mtr_log_header_4(8, 2, 1, 2, 5, again, sizeof again, &most, &mark) == MTR_DONE &&
+                                memcmp(out, again, 44) == 0);
     most = count;
-    expect("room", mtr_resume_log(file, length, 5, 8, &resumed, again, most - 1, &count) == MTR_SHORT && count == most &&
-                       mtr_resume_log(file, length, 5, 8, &resumed, again, most, &count) == MTR_DONE &&
+    expect("room", mtr_resume_log(file, length, 5, 8, 2, &resumed, again, most - 1, &count) == MTR_SHORT && count == most &&
+                       mtr_resume_log(file, length, 5, 8, 2, &resumed, again, most, &count) == MTR_DONE &&
                        memcmp(out, again, most) == 0);
     file[60] ^= 1;
-    expect("a torn block", mtr_resume_log(file, length, 5, 8, &resumed, out, sizeof out, &count) == MTR_DONE &&
+    expect("a torn block", mtr_resume_log(file, length, 5, 8, 3, &resumed, out, sizeof out, &count) == MTR_DONE &&
                                count == 44 + 16 + 17 && !resumed.ended);
     file[12]++;
-    expect("no header", mtr_resume_log(file, length, 5, 8, &resumed, out, sizeof out, &count) == MTR_FAULT);
+    expect("no header", mtr_resume_log(file, length, 5, 8, 3, &resumed, out, sizeof out, &count) == MTR_FAULT);
 }
 
 /* A keeper of one log that may be written. */
@@ -988,7 +991,7 @@ static void test_restart(uint32_t format) {
     expect("a store", add_bytes(&store, 0, file, length, 64) == MTR_DONE && mtr_recover(&store, &fault) == MTR_DONE);
     expect("it goes on", mtr_keeper_resume(&keeper, &store, 4, 9) == MTR_DONE &&
                              mtr_keeper_resume(&keeper, &store, 4, 9) == MTR_WRONG);
-    expect("what replaces the log", mtr_resume_log(file, length, 3, 8, &resumed, out, sizeof out, &count) == MTR_DONE);
+    expect("what replaces the log", mtr_resume_log(file, length, 3, 8, 3, &resumed, out, sizeof out, &count) == MTR_DONE);
     expect("no log", mtr_keeper_add(&keeper, text("x"), 1, &number) == MTR_WRONG && number == 9);
     expect("its log", mtr_keeper_add(&keeper, out, count, &number) == MTR_DONE && number == 0);
     expect("only once", mtr_keeper_add(&keeper, out, count, &number) == MTR_WRONG);
@@ -1018,7 +1021,7 @@ static uint32_t add_resumed(mtr_place *keeper, const uint8_t *log, size_t size, 
     mtr_resumed resumed;
     uint8_t out[64];
     size_t count = 0;
-    uint32_t status = mtr_resume_log(log, size, 3, 8, &resumed, out, sizeof out, &count);
+    uint32_t status = mtr_resume_log(log, size, 3, 8, 3, &resumed, out, sizeof out, &count);
     return status == MTR_DONE ? mtr_keeper_add(keeper, out, count, number) : status;
 }
 
@@ -1182,7 +1185,7 @@ static uint32_t allocate(unsigned call, mtr_place *store, mtr_place *other) {
     case 1:
         return mtr_share(store, other);
     case 2:
-        return mtr_resume_log(examples[1].bytes, examples[1].length, 40, 8, &resumed, out, sizeof out, &count);
+        return mtr_resume_log(examples[1].bytes, examples[1].length, 40, 8, 3, &resumed, out, sizeof out, &count);
     default:
         return mtr_fault_text(&fault, out, sizeof out, &count);
     }

@@ -180,7 +180,7 @@ static void resume(const std::string &name, const Bytes &log, uint64_t cutoff) {
     Bytes out(log.size() + log.size() / 1024 + 33);
     size_t count = 0;
     mtr_resumed resumed{};
-    must(mtr_resume_log(log.data(), log.size(), cutoff, 0, &resumed, out.data(), out.size(), &count) == MTR_DONE, name);
+    must(mtr_resume_log(log.data(), log.size(), cutoff, 0, 0, &resumed, out.data(), out.size(), &count) == MTR_DONE, name);
     out.resize(count);
     if (resumed.changed)
         close(publish(name, out));

@@ -117,6 +117,7 @@ pub struct RawLent {
 
 /// The header of a log.
 #[repr(C)]
+#[derive(Clone, Copy, Default)]
 #[allow(dead_code)]
 pub struct RawLogFront {
     pub format: u32,
@@ -188,6 +189,7 @@ extern "C" {
         length: usize,
         cutoff: u64,
         salt: u64,
+        workers: u32,
         resumed: *mut RawResumed,
         out: *mut u8,
         room: usize,

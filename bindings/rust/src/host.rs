@@ -304,10 +304,11 @@ struct Old {
 
 impl Old {
     /// Makes the bytes that must replace the log, and keeps them in place of the bytes of the log. Changes no file.
-    fn resume(&mut self, cutoff: u64, salt: u64) -> Result<Resumed, HostError> {
+    fn resume(&mut self, report: &Report, salt: u64) -> Result<Resumed, HostError> {
         let name = name_of_log(self.segment);
         let mut bytes = Vec::new();
-        let resumed = records::resume_log(&mut bytes, &self.bytes, cutoff, salt).of(&name)?;
+        let workers = report.writers as u32;
+        let resumed = records::resume_log(&mut bytes, &self.bytes, report.cutoff, salt, workers).of(&name)?;
         self.bytes = bytes;
         if resumed.ended {
             return Err(HostError::new(&name, "is ended"));
@@ -387,7 +388,7 @@ fn replace(folder: &Folder, keeper: &mut Resuming, log: &Old) -> Result<(File, u
 fn go_on(settings: Settings, folder: Folder, found: Found) -> Result<Opened, HostError> {
     let (store, mut old) = recover(&folder, &found)?;
     let (report, salt) = (store.report(), salt());
-    let resumed = (0..).zip(&mut old).map(|(n, log)| log.resume(report.cutoff, salt.wrapping_add(n)));
+    let resumed = (0..).zip(&mut old).map(|(n, log)| log.resume(&report, salt.wrapping_add(n)));
     let resumed: Vec<Resumed> = resumed.collect::<Result<_, _>>()?;
     let losses = Losses { settings: &settings, folder: &folder, old: &old, resumed: &resumed, report: &report };
     expect_accepted(&settings, &folder, &losses.lines(&found.parts)?, &old)?;

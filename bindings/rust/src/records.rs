@@ -4,7 +4,7 @@
 
 use alloc::vec::Vec;
 
-use crate::c::{self, RawLogEnding, RawResumed};
+use crate::c::{self, RawLogEnding, RawLogFront, RawResumed};
 use crate::inputs::done;
 use crate::{OutOfMemory, WriteError};
 
@@ -89,7 +89,8 @@ pub fn segment_header(out: &mut Vec<u8>, from: u64, worker: u32, segment: u32) -
 /// records of the log go into blocks ([`seal`]), and may be cut into blocks anywhere.
 /// - `salt` is a random number, which must be new for each file.
 /// - `worker` is the number of the worker whose log it is, and `segment` is the number of the segment.
-/// - `workers` is the number of workers of the server.
+/// - `workers` is the number of workers that have a file in the folder, this worker included. If a later start finds files of
+///   fewer workers, all files of a worker are lost.
 /// - `from` is a timestamp: updates below it may be missing from the segment.
 pub fn log_header_4(
     out: &mut Vec<u8>,
@@ -229,16 +230,31 @@ pub fn part_footer(out: &mut Vec<u8>, end: u64, entries: u32) -> Result<(), OutO
 /// records below the cutoff; a mark at the cutoff; and, if the log was ended, the mark at 2^64 - 1 that ends it.
 ///
 /// A log of format 4 is replaced by a file of format 4 with the salt `salt`, a random number that must be new for each file.
+/// The header of the new file says `workers`, the number of writers of the report
+/// ([`Report::writers`](crate::Report::writers)). So later starts miss each worker whose logs are all lost, but not a worker
+/// without which the server went on already.
 ///
 /// `NoLog`: the bytes are no log.
-pub fn resume_log(out: &mut Vec<u8>, log: &[u8], cutoff: u64, salt: u64) -> Result<Resumed, WriteError> {
+pub fn resume_log(out: &mut Vec<u8>, log: &[u8], cutoff: u64, salt: u64, workers: u32) -> Result<Resumed, WriteError> {
     let mut raw = RawResumed::default();
     // SAFETY: slices are lent for the call, and `append` says where and how much may be written.
     write(out, |at, room, count| unsafe {
-        c::mtr_resume_log(log.as_ptr(), log.len(), cutoff, salt, &mut raw, at, room, count)
+        c::mtr_resume_log(log.as_ptr(), log.len(), cutoff, salt, workers, &mut raw, at, room, count)
     })?;
     let format = if raw.format == 1 { Format::One } else { Format::Two };
     Ok(Resumed { dropped: raw.dropped, late_marks: raw.late_marks, format, changed: raw.changed, ended: raw.ended })
+}
+
+/// Returns the number of workers that the header of a log of format 4 says. If the bytes do not begin with such a header, it
+/// returns 0. A server that finds logs of fewer workers ([`Report::writers`](crate::Report::writers)) has lost all files of a
+/// worker.
+pub fn workers_said(log: &[u8]) -> u32 {
+    let mut raw = RawLogFront::default();
+    // SAFETY: the log is lent for the call, which writes to `raw` alone.
+    match unsafe { c::mtr_read_log_header(log.as_ptr(), log.len(), &mut raw) } {
+        c::DONE => raw.workers,
+        _ => 0,
+    }
 }
 
 /// Where a log ends. A server compares these facts of all its logs to find out whether more was lost than a crash loses.

@@ -287,10 +287,10 @@ fn a_device_that_failed_is_a_fault() {
 fn a_torn_log_is_resumed() {
     let log = example("store/worker-1.mtl");
     let mut resumed = Vec::new();
-    let told = records::resume_log(&mut resumed, &log, 40, 7).unwrap();
+    let told = records::resume_log(&mut resumed, &log, 40, 7, 2).unwrap();
     assert_eq!((told.dropped, told.format, told.changed, told.ended), (1, Format::Two, true, false));
     assert_eq!(mtrecover::recover(&[&resumed], &[]).unwrap().report().cutoff, 40);
-    assert_eq!(records::resume_log(&mut resumed, b"x", 40, 7), Err(WriteError::NoLog));
+    assert_eq!(records::resume_log(&mut resumed, b"x", 40, 7, 2), Err(WriteError::NoLog));
     let ending = records::log_ending(&log).unwrap();
     assert_eq!((ending.from, ending.last, ending.torn, ending.goes_on), (0, 42, true, false));
     assert_eq!(records::log_ending(b"x"), Err(WriteError::NoLog));
@@ -325,7 +325,7 @@ fn an_ended_log_says_so() {
     let (mut log, mut resumed) = (Vec::new(), Vec::new());
     records::segment_header(&mut log, 0, 2, 1).unwrap();
     records::mark(&mut log, u64::MAX).unwrap();
-    let told = records::resume_log(&mut resumed, &log, 40, 7).unwrap();
+    let told = records::resume_log(&mut resumed, &log, 40, 7, 2).unwrap();
     assert_eq!((told.dropped, told.format, told.changed, told.ended), (0, Format::Two, true, true));
 }
 
@@ -354,9 +354,23 @@ fn a_log_has_records_in_blocks() {
 fn a_log_in_blocks_is_resumed_with_another_salt() {
     let (mut body, mut resumed) = (Vec::new(), Vec::new());
     records::mark(&mut body, 2).unwrap();
-    let told = records::resume_log(&mut resumed, &sealed(3, &body), 2, 8).unwrap();
+    let told = records::resume_log(&mut resumed, &sealed(3, &body), 2, 8, 1).unwrap();
     assert_eq!((told.dropped, told.format, told.changed, told.ended), (0, Format::Two, true, false));
     assert_eq!((&resumed[..4], resumed[11], resumed.len()), (&b"MTL4"[..], 8, 77));
+}
+
+#[test]
+fn a_resumed_log_says_how_many_workers_are_left() {
+    let mut log = Vec::new();
+    records::log_header_4(&mut log, 7, 0, 0, 3, 0).unwrap();
+    assert_eq!(records::workers_said(&log), 3);
+    for workers in 2..5 {
+        let mut resumed = Vec::new();
+        records::resume_log(&mut resumed, &log, 2, 8, workers).unwrap();
+        assert_eq!(records::workers_said(&resumed), workers);
+    }
+    assert_eq!(records::workers_said(&log[..43]), 0);
+    assert_eq!(records::workers_said(&example("a.mtl")), 0);
 }
 
 #[test]

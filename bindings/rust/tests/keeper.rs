@@ -211,7 +211,7 @@ fn a_keeper_goes_on_after_a_crash() {
     let mut resumed = Vec::new();
     for log in [&first, &second] {
         resumed.clear();
-        records::resume_log(&mut resumed, log, store.report().cutoff, 8).unwrap();
+        records::resume_log(&mut resumed, log, store.report().cutoff, 8, 1).unwrap();
         resuming.add(&resumed).unwrap();
     }
     let (mut keeper, logs) = resuming.finish().unwrap();
@@ -228,7 +228,7 @@ fn resume_with(store: &Store, logs: &[&[u8]]) -> Resuming {
     let mut resuming = Keeper::resume(store, 0, 9).unwrap();
     for (log, salt) in logs.iter().zip(8..) {
         let mut resumed = Vec::new();
-        records::resume_log(&mut resumed, log, store.report().cutoff, salt).unwrap();
+        records::resume_log(&mut resumed, log, store.report().cutoff, salt, 2).unwrap();
         resuming.add(&resumed).unwrap();
     }
     resuming

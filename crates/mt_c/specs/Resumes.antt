@@ -9,9 +9,9 @@ use Rattle.mt_c.specs.Formats.{IsFormatOf}
 
 -- What a function with this status did that writes to a buffer what replaces the log after a recovery with this cutoff. A log
 -- of format 4 counts as changed: its blocks begin anew, with the salt.
-pub record Resumes (cutoff salt : ℕ) (log : List ℕ) (told : Resumed) (before after : List ℕ) (count status : ℕ) : Type 0 where
+pub record Resumes (cutoff salt workers : ℕ) (log : List ℕ) (told : Resumed) (before after : List ℕ) (count status : ℕ) : Type 0 where
   pub bytes : List ℕ
-  pub is_resumed : Replaces cutoff salt log bytes
+  pub is_resumed : Replaces cutoff salt workers log bytes
   pub dropped : (reading : LogReading) → IsReading log reading → told.dropped ≡ count_of (updates_past cutoff reading.records)
   pub late_marks : (reading : LogReading) → IsReading log reading → told.late_marks ≡ count_of (marks_past cutoff reading.records)
   pub format : (reading : LogReading) → IsReading log reading → IsFormatOf log reading.head told.format

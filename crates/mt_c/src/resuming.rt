@@ -31,25 +31,26 @@ pub struct Resumed {
 }
 
 /// Writes what replaces the log, if a server resumes after a recovery with this cutoff, to the beginning of `out`, and its
-/// length to `count`. It has the format of the log, and of format 4 this salt, a number that no other file has. `FAULT`: the
-/// bytes are no log.
+/// length to `count`. It has the format of the log, and of format 4 this salt, a number that no other file has, and a header that
+/// says `workers`, the number of writers of the logs that recovery found. `FAULT`: the bytes are no log.
 #[unsafe(no_mangle)]
 pub extern "C" fn mtr_resume_log(
     alloc: Global,
     log: &[u8],
     cutoff: u64,
     salt: u64,
+    workers: u32,
     resumed: &mut Resumed,
     out: &mut [u8],
     count: &mut usize,
 ) -> u32
-    ensures written { result ≢ MEMORY → result ≢ FAULT → Resumes cutoff salt log.now resumed.new out.old out.new count.new result }
+    ensures written { result ≢ MEMORY → result ≢ FAULT → Resumes cutoff salt workers log.now resumed.new out.old out.new count.new result }
     ensures fault { result ≡ FAULT → (fault : FeedFault) × IsLogFault log.now fault }
     ensures untold { result ≢ DONE → result ≢ SHORT → resumed.new ≡ resumed.old }
     ensures kept { result ≢ DONE → out.new ≡ out.old }
     ensures certain { IsOneOf (DONE ∷ MEMORY ∷ SHORT ∷ FAULT ∷ []) result }
 {
-    match resume_log(alloc, log, cutoff, salt) {
+    match resume_log(alloc, log, cutoff, salt, workers) {
         Ok(new) => {
             let status = write_joined(&new.front, new.records, &new.marks, out, count);
             if status == MEMORY {

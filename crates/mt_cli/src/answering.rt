@@ -74,9 +74,9 @@ impl<'a, R: Host> Run<'a, R> {
             StoreQuery::Report {
                 is_strict: true,
                 ..
-            } => self.tell_noted_and_said(caveat, writers, err),
+            } => self.tell_noted(caveat, writers, err),
             StoreQuery::Report { .. } => {
-                self.tell_noted_and_said(None, writers, err)?;
+                self.tell_noted(None, writers, err)?;
                 Ok(caveat)
             }
             _ => Ok(caveat),

@@ -28,27 +28,17 @@ pub struct NewLog {
 }
 
 impl NewLog {
-    /// Plans the log of a worker `from` this timestamp, with a mark directly above `last`, in a file with this salt. Err: no
-    /// timestamp is left; its name is taken.
+    /// Plans the log with this header, with a mark directly above `last`. Err: no timestamp is left; its name is taken.
     pub fn above<R: Host>(
         site: &Site<'_, R>,
-        salt: u64,
-        worker: u32,
+        header: Header,
         last: u64,
-        from: u64,
     ) -> Result<NewLog, Halt<'static>> {
         let mark = last.saturating_add(1);
         // An update goes on from the mark, and needs a mark above it that does not end the log.
         if mark >= u64::MAX - 1 {
             return Err(Halt::Unplanned("log", PlanFault::Timestamp));
         }
-        let header = Header {
-            salt,
-            worker,
-            segment: 0,
-            workers: worker.saturating_add(1),
-            from,
-        };
         let mut records = Vec::new(site.rt.alloc());
         encode_record(&Record::mark(mark), &mut records)?;
         let mut bytes = header.bytes(site.rt.alloc())?;
@@ -119,7 +109,14 @@ impl<'a, R: Host> Run<'a, R> {
             return Ok(losses.map(Caveat::Losses));
         }
         self.expect_room(self.names.parts.len())?;
-        let log = NewLog::above(site, site.salt()?, 0, checkpoint.end, checkpoint.begin)?;
+        let header = Header {
+            salt: site.salt()?,
+            worker: 0,
+            segment: 0,
+            workers: 1,
+            from: checkpoint.begin,
+        };
+        let log = NewLog::above(site, header, checkpoint.end)?;
         let loss = log.loss(self.rt.alloc(), checkpoint.begin)?;
         loss.tell(err);
         if !how.is_dry {

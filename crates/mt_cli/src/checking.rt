@@ -52,7 +52,7 @@ impl<'a, R: Host> Run<'a, R> {
             self.tell_late(&checked, err)?;
         }
         let caveat = checked.losses().map(Caveat::Losses);
-        let caveat = self.tell_noted_and_said(caveat, checked.writers(alloc)?, err)?;
+        let caveat = self.tell_noted(caveat, checked.writers(alloc)?, err)?;
         if let Some(refusal) = checked.unopened {
             return Err(Halt::from(refusal));
         }

@@ -35,12 +35,12 @@ impl<'a, R: Host> Run<'a, R> {
         let looks = self.look_at_logs()?;
         let recovered = self.recover(err)?;
         let writers = recovered.report().writers;
-        let others = self.folder.other_writers(self.rt.alloc(), writers)?;
-        let loss = if others.is_some() || may_have_lost(recovered.report()) {
+        let lost = self.lost_writers(writers)?;
+        let loss = if lost.is_some() || may_have_lost(recovered.report()) {
             // Only a check tells which file shows it.
             self.expect_no_pipe()?;
             let checked = self.check_all(err)?;
-            self.loss_of(&checked, new.budget.most_late, others)?
+            self.loss_of(&checked, new.budget.most_late, lost)?
         } else {
             None
         };

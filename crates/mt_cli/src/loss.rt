@@ -3,7 +3,6 @@ use crate::caveat::plural;
 use crate::checked::{Checked, CheckedLog};
 use crate::fates::{Fate, numbers_of};
 use crate::host::{Host, Run};
-use crate::request::Folder;
 use mt_recover::{Refusal, Start};
 use mt_text::Shown;
 use mt_words::Memory;
@@ -36,21 +35,30 @@ impl Loss {
     }
 }
 
-impl Folder<'_> {
-    /// Returns that there is this number of writers, if another one must be there. Err: out of memory.
-    pub fn other_writers(&self, alloc: Global, count: usize) -> Result<Option<String>, AllocError> {
-        match self.writers {
-            Some(wanted) if wanted != count as u64 => {
-                let s = plural(count as u128);
-                let line = format!(in alloc; "{count} writer{s}, but {wanted} must be there")?;
+impl<'a, R: Host> Run<'a, R> {
+    /// Returns a line if this is another number of writers than the arguments say or, if they say none, fewer than a header of
+    /// format 4 says. A crash never leaves fewer: a header counts only workers of which a file was created, and a server keeps a
+    /// file of each worker that its headers count. Err: out of memory.
+    pub fn lost_writers(&self, count: usize) -> Result<Option<String>, Memory> {
+        let alloc = self.rt.alloc();
+        let s = plural(count as u128);
+        if let Some(wanted) = self.folder.writers {
+            if wanted == count as u64 {
+                return Ok(None);
+            }
+            let line = format!(in alloc; "{count} writer{s}, but {wanted} must be there")?;
+            return Ok(Some(line));
+        }
+        let said = self.workers_said()?;
+        match said.iter().max() {
+            Some(most) if *most as usize > count => {
+                let line = format!(in alloc; "{count} writer{s}, but a header says {most}")?;
                 Ok(Some(line))
             }
             _ => Ok(None),
         }
     }
-}
 
-impl<'a, R: Host> Run<'a, R> {
     /// Returns what recovery of these files loses that no crash loses, if this many updates may be late, and the line on the number
     /// of writers if there is one. None: nothing, or it names a fault. Err: read error, or out of memory.
     pub fn loss_of(

@@ -23,9 +23,8 @@ impl<'a, R: Host> Run<'a, R> {
         read_notes(self.rt, &path)
     }
 
-    /// Tells what is noted, a line each, or that this cannot be read; that names are ignored; and that there is another number of
-    /// writers than must be, if there is this one. Returns that this is a caveat, unless there is another one. A write error is
-    /// passed over.
+    /// Prints each line that is noted, or that the notes cannot be read; that names are ignored; and that writers are lost, if
+    /// there are only so many. Returns that this is a caveat, unless there is another one. A write error is passed over.
     pub fn tell_noted<E: Write>(
         &self,
         caveat: Option<Caveat>,
@@ -33,7 +32,7 @@ impl<'a, R: Host> Run<'a, R> {
         err: &mut E,
     ) -> Result<Option<Caveat>, Refusal<'static>> {
         let mut is_caveat = self.tell_ignored(err);
-        if let Some(line) = self.folder.other_writers(self.rt.alloc(), writers)? {
+        if let Some(line) = self.lost_writers(writers)? {
             let _ = writeln!(err, "mtrecover: {line}");
             is_caveat = true;
         }
@@ -64,33 +63,6 @@ impl<'a, R: Host> Run<'a, R> {
         } else {
             caveat
         })
-    }
-
-    /// Tells likewise and, unless the arguments give the number of writers, that a header of format 4 says more. So it may be after
-    /// a crash too: the header of a log that was being begun counts that log, which may be lost.
-    pub fn tell_noted_and_said<E: Write>(
-        &self,
-        caveat: Option<Caveat>,
-        writers: usize,
-        err: &mut E,
-    ) -> Result<Option<Caveat>, Refusal<'static>> {
-        let caveat = self.tell_noted(caveat, writers, err)?;
-        if self.folder.writers.is_some() {
-            return Ok(caveat);
-        }
-        let said = self.workers_said()?;
-        match said.iter().max() {
-            Some(most) if *most as usize > writers => {
-                let s = plural(writers as u128);
-                // A write error is passed over.
-                let _ = writeln!(
-                    err,
-                    "mtrecover: {writers} writer{s}, but a header says {most}"
-                );
-                Ok(caveat.or(Some(Caveat::No)))
-            }
-            _ => Ok(caveat),
-        }
     }
 
     /// Tells how many names are ignored that look like those of logs and parts, and the first of them. Returns whether there are

@@ -10,6 +10,7 @@ use crate::request::Resume;
 use crate::row::{Cell, write_row};
 use crate::saving::Site;
 use crate::watching::Look;
+use mt_block::{Header, header_at as sealed_header_at};
 use mt_record::resume_log;
 use std::io::{BufWriter, Write};
 
@@ -36,8 +37,8 @@ impl<'a, R: Host> Run<'a, R> {
         let checked = self.check_all(err)?;
         let losses = checked.losses();
         let writers = checked.writers(self.rt.alloc())?;
-        let others = self.folder.other_writers(self.rt.alloc(), writers)?;
-        let loss = self.loss_of(&checked, how.budget.most_late, others)?;
+        let lost = self.lost_writers(writers)?;
+        let loss = self.loss_of(&checked, how.budget.most_late, lost)?;
         let version = checked.version();
         let mut parts = checked.parts;
         if let Some(refusal) = checked.unopened {
@@ -67,12 +68,18 @@ impl<'a, R: Host> Run<'a, R> {
             self.expect_room(self.names.logs.len().saturating_add(kept))?;
             let end = base.as_ref().map_or(0, |checkpoint| checkpoint.end);
             let last = self.last_below_end(&site)?.max(end);
-            let worker = unused_worker(self.rt.alloc(), &checked.logs)?;
-            let salt = salt.wrapping_add(self.names.logs.len() as u64);
-            Some(NewLog::above(&site, salt, worker, last, start.window.begin)?)
+            let header = Header {
+                salt: salt.wrapping_add(self.names.logs.len() as u64),
+                worker: unused_worker(self.rt.alloc(), &checked.logs)?,
+                segment: 0,
+                workers: 1,
+                from: start.window.begin,
+            };
+            Some(NewLog::above(&site, header, last)?)
         } else {
             None
         };
+        let writers = u32::try_from(writers).unwrap_or(u32::MAX);
         let cutoff = begun.as_ref().map_or(start.window.cutoff, |log| log.mark);
         let mut out = BufWriter::with_capacity(self.rt.alloc(), PRINTED_AT_ONCE, out)?;
         if !how.is_dry {
@@ -105,9 +112,13 @@ impl<'a, R: Host> Run<'a, R> {
         }
         let mut last = cutoff;
         for ((log, name), look) in self.names.logs.iter().enumerate().zip(&looks) {
-            let salt = salt.wrapping_add(log as u64);
+            let plan = Replacement {
+                cutoff,
+                salt: salt.wrapping_add(log as u64),
+                writers,
+            };
             let file = (name.as_str(), *look);
-            if replace_log(&site, log, file, cutoff, salt, how, &mut out)? {
+            if replace_log(&site, log, file, plan, how, &mut out)? {
                 last = u64::MAX;
             }
         }
@@ -172,19 +183,33 @@ fn spoil<R: Host>(
     Ok(())
 }
 
-/// Replaces a log, if it is not resumed yet and is as it was in the look, prints its line, and returns whether it was ended. A log of format 4 is always
-/// replaced, by a file with this salt: so no block of the old file is one of the new file, wherever the disk puts it.
+/// What replaces a log: its records below the cutoff. The header of a file of format 4 has this salt, and says at most this number
+/// of writers. It never says more workers than before, since a server may delete all files of a worker whose log has ended.
+#[derive(Clone, Copy)]
+struct Replacement {
+    cutoff: u64,
+    salt: u64,
+    writers: u32,
+}
+
+/// Replaces a log, if it is not resumed yet and is as it was in the look, prints its line, and returns whether it was ended. A log
+/// of format 4 is always replaced, by a file with another salt: so no block of the old file is one of the new file, wherever the
+/// disk puts it.
 fn replace_log<R: Host, O: Write>(
     site: &Site<'_, R>,
     log: usize,
     (name, look): (&str, Option<Look>),
-    cutoff: u64,
-    salt: u64,
+    plan: Replacement,
     how: Resume,
     out: &mut O,
 ) -> Result<bool, Halt<'static>> {
     let bytes = site.read(name)?;
-    let new = match resume_log(site.rt.alloc(), &bytes, cutoff, salt) {
+    let workers = match sealed_header_at(&bytes) {
+        Some((header, _)) => header.workers.min(plan.writers),
+        None => plan.writers,
+    };
+    let alloc = site.rt.alloc();
+    let new = match resume_log(alloc, &bytes, plan.cutoff, plan.salt, workers) {
         Ok(new) => new,
         Err(fault) => return Err(Halt::from(fault.of_log(log))),
     };

@@ -164,10 +164,10 @@ any_format before text after cutoff opens to = by opens
         }
 
 -- a file that replaces a log says what replaces it
-pub file_replaced : (before after : List ℕ) (cutoff salt : ℕ) → cutoff < 2 ^ 64 → Replaces cutoff salt before after → IsReplaced cutoff before after
-file_replaced before after cutoff salt fits (inl (plain, to)) = text_replaced before before after false cutoff fits (inl ((plain, refl), refl)) to
-file_replaced before after cutoff salt fits (inr again) =
-    let header = resumed_header cutoff salt again.header in
+pub file_replaced : (before after : List ℕ) (cutoff salt workers : ℕ) → cutoff < 2 ^ 64 → Replaces cutoff salt workers before after → IsReplaced cutoff before after
+file_replaced before after cutoff salt workers fits (inl (plain, to)) = text_replaced before before after false cutoff fits (inl ((plain, refl), refl)) to
+file_replaced before after cutoff salt workers fits (inr again) =
+    let header = resumed_header cutoff salt workers again.header in
     let opens : Opens before (text_of again.header again.bodies) (is_torn again.end) = inr (record { header = again.header; bodies = again.bodies; end = again.end; is_file = again.is_file; is_text = refl; ends = refl }) in
     let reads : Opens after (text_of header again.new) false = inr (record { header = header; bodies = again.new; end = []; is_file = again.replaces; is_text = refl; ends = refl }) in
     any_format before (text_of header again.new) after cutoff reads (text_replaced before (text_of again.header again.bodies) (text_of header again.new) (is_torn again.end) cutoff fits opens again.is_resumed)

@@ -21,7 +21,7 @@ pub fn a_resumed_log_is_a_log()
     ensures last { (log : LogReading) (cutoff last : ℕ) → cutoff < 2 ^ 64 → IsLast (resumed cutoff log) last →
         last ≡ (if is_ended log.records then greatest_timestamp else cutoff) }
     ensures again { (log : LogReading) (cutoff : ℕ) → resumed cutoff (resumed cutoff log) ≡ resumed cutoff log }
-    ensures file { (before after : List ℕ) (cutoff salt : ℕ) → cutoff < 2 ^ 64 → Replaces cutoff salt before after →
+    ensures file { (before after : List ℕ) (cutoff salt workers : ℕ) → cutoff < 2 ^ 64 → Replaces cutoff salt workers before after →
         IsReplaced cutoff before after }
 {}
 

@@ -101,22 +101,22 @@ text_of_file file text ended log opens is =
     (torn, plain_reading text (record log { torn = torn }) is.tail (subst (λ (bytes : List ℕ). IsLog bytes log.head log.records is.tail) (sym one.0) is.is_log) tells)
 
 -- the numbers of the header of a file that replaces one fit their fields
-pub resumed_fits : (cutoff salt : ℕ) (header new : Header) → IsHeader header → cutoff < 2 ^ 64 → salt < 2 ^ 64 → new ≡ resumed_header cutoff salt header → IsHeader new
-resumed_fits cutoff salt header new is fits random e =
+pub resumed_fits : (cutoff salt workers : ℕ) (header new : Header) → IsHeader header → cutoff < 2 ^ 64 → salt < 2 ^ 64 → workers < 2 ^ 32 → new ≡ resumed_header cutoff salt workers header → IsHeader new
+resumed_fits cutoff salt workers header new is fits random few e =
     let from : min header.from cutoff < 2 ^ 64 = omega (arith, is.from, fits) in
-    subst IsHeader (sym e) (record { salt = random; worker = is.worker; segment = is.segment; workers = is.workers; from = from })
+    subst IsHeader (sym e) (record { salt = random; worker = is.worker; segment = is.segment; workers = few; from = from })
 
 -- a file whose blocks have what replaces the text of another file replaces that file
-pub sealed_again : (bytes : List ℕ) (opened : OpenedFile) (cutoff salt : ℕ) (text front records marks file : List ℕ) (new : Header) (bodies : List (List ℕ)) → (is : IsOpened bytes opened) → (opened.end ≡ ends.Damaged → ⊥)
+pub sealed_again : (bytes : List ℕ) (opened : OpenedFile) (cutoff salt workers : ℕ) (text front records marks file : List ℕ) (new : Header) (bodies : List (List ℕ)) → (is : IsOpened bytes opened) → (opened.end ≡ ends.Damaged → ⊥)
     → text ≡ opened.text.items → IsResumed cutoff text (front ++ (records ++ marks)) → front ≡ head_bytes (record (text_head opened.header) { from = min opened.header.from cutoff })
-    → new ≡ resumed_header cutoff salt opened.header → IsFile file new bodies [] → joined bodies ≡ records ++ marks → IsSealedAgain cutoff salt bytes file
-sealed_again bytes opened cutoff salt text front records marks file new bodies is whole same to begins header is_file joins =
-    let after : front ++ (records ++ marks) ≡ text_of (resumed_header cutoff salt opened.header) bodies = λ i. begins i ++ sym joins i in record {
+    → new ≡ resumed_header cutoff salt workers opened.header → IsFile file new bodies [] → joined bodies ≡ records ++ marks → IsSealedAgain cutoff salt workers bytes file
+sealed_again bytes opened cutoff salt workers text front records marks file new bodies is whole same to begins header is_file joins =
+    let after : front ++ (records ++ marks) ≡ text_of (resumed_header cutoff salt workers opened.header) bodies = λ i. begins i ++ sym joins i in record {
       header = opened.header;
       bodies = is.bodies;
       end = is.rest;
       is_file = opened_file bytes opened is whole;
       new = bodies;
       replaces = subst (λ (h : Header). IsFile file h bodies []) header is_file;
-      is_resumed = subst (λ (l : List ℕ). IsResumed cutoff l (text_of (resumed_header cutoff salt opened.header) bodies)) (same ∙ is.is_text) (subst (λ (l : List ℕ). IsResumed cutoff text l) after to);
+      is_resumed = subst (λ (l : List ℕ). IsResumed cutoff l (text_of (resumed_header cutoff salt workers opened.header) bodies)) (same ∙ is.is_text) (subst (λ (l : List ℕ). IsResumed cutoff text l) after to);
     }

@@ -50,20 +50,20 @@ pub record IsResumed (cutoff : ℕ) (before after : List ℕ) : Type 0 where
   pub is_reading : IsReading before log
   pub spelled : after ≡ log_bytes (resumed cutoff log).head (resumed cutoff log).records
 
--- the header of a file of format 4 that replaces one with this header
-abbrev pub resumed_header : ℕ → ℕ → Header → Header
-resumed_header cutoff salt header = record header { salt = salt; from = min header.from cutoff }
+-- the header of a file of format 4 that replaces one with this header; it says this number of workers
+abbrev pub resumed_header : (cutoff salt workers : ℕ) → Header → Header
+resumed_header cutoff salt workers header = record header { salt = salt; workers = workers; from = min header.from cutoff }
 
--- The bytes before are a file of format 4. The bytes after are one too, with this salt and no torn end, whose text is the encoding of what replaces the log.
-pub record IsSealedAgain (cutoff salt : ℕ) (before after : List ℕ) : Type 0 where
+-- The bytes before are a file of format 4. The bytes after are one too, with this salt, this number of workers, and no torn end, whose text is the encoding of what replaces the log.
+pub record IsSealedAgain (cutoff salt workers : ℕ) (before after : List ℕ) : Type 0 where
   pub header : Header
   pub bodies : List (List ℕ)
   pub end : List ℕ
   pub is_file : IsFile before header bodies end
   pub new : List (List ℕ)
-  pub replaces : IsFile after (resumed_header cutoff salt header) new []
-  pub is_resumed : IsResumed cutoff (text_of header bodies) (text_of (resumed_header cutoff salt header) new)
+  pub replaces : IsFile after (resumed_header cutoff salt workers header) new []
+  pub is_resumed : IsResumed cutoff (text_of header bodies) (text_of (resumed_header cutoff salt workers header) new)
 
--- the bytes after are a file that replaces the log: of the format of the bytes before, and with this salt if they are of format 4
-abbrev pub Replaces : ℕ → ℕ → List ℕ → List ℕ → Type 0
-Replaces cutoff salt before after = ((IsSealed before → ⊥) × IsResumed cutoff before after) ⊎ IsSealedAgain cutoff salt before after
+-- The bytes after are a file that replaces the log, of the format of the bytes before. If they are of format 4, it has this salt, and says this number of workers.
+abbrev pub Replaces : (cutoff salt workers : ℕ) (before after : List ℕ) → Type 0
+Replaces cutoff salt workers before after = ((IsSealed before → ⊥) × IsResumed cutoff before after) ⊎ IsSealedAgain cutoff salt workers before after

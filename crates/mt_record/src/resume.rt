@@ -50,12 +50,13 @@ pub struct ResumedLog<'a> {
 
 /// Returns what replaces this log when a server resumes after a recovery that found this cutoff. All logs are replaced
 /// before the server appends again. A file of format 4 is replaced by one with this salt, which no other file has. Each
-/// block of the new file has whole records: at most 32,768 bytes of them, or one longer record. Of other formats the records
-/// are not copied.
+/// block of the new file has whole records: at most 32,768 bytes of them, or one longer record. Its header says
+/// `workers`, the number of writers of the logs that recovery found: none of them can vanish unnoticed, and one whose loss
+/// was accepted is missed no more. Of other formats the records are not copied.
 /// Err: the one fault of the bytes, or `Memory` if an allocation failed.
 ///
 /// ```
-/// let new = resume_log(alloc, &bytes, report.cutoff, salt)?;
+/// let new = resume_log(alloc, &bytes, report.cutoff, salt, writers)?;
 /// file.write_all(&new.front)?;
 /// file.write_all(new.records)?;
 /// file.write_all(&new.marks)?;
@@ -65,8 +66,9 @@ pub fn resume_log(
     bytes: &[u8],
     cutoff: u64,
     salt: u64,
+    workers: u32,
 ) -> Result<ResumedLog<'_>, FeedFault>
-    ensures log { IfOk result (λ new. Replaces cutoff salt bytes.now (new.front.items ++ (new.records.now ++ new.marks.items))) }
+    ensures log { IfOk result (λ new. Replaces cutoff salt workers bytes.now (new.front.items ++ (new.records.now ++ new.marks.items))) }
     ensures small { IfOk result (λ new. IsSealed bytes.now → HasSmallBlocks (new.front.items ++ (new.records.now ++ new.marks.items))) }
     ensures dropped { IfOk result (λ new. (log : LogReading) → IsReading bytes.now log →
         new.dropped ≡ count_of (updates_past cutoff log.records)) }
@@ -88,6 +90,7 @@ pub fn resume_log(
     let from = opened.header.from.min(cutoff);
     let header = Header {
         salt,
+        workers,
         from,
         ..opened.header
     };

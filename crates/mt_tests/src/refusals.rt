@@ -1,4 +1,4 @@
-//! Tests of what happens when memory runs out. Run alone, they see no failed allocation. `.ci/try_failures` makes
+//! Tests of what happens when memory runs out. Run alone, they see no failed allocation. `tests/failures` makes
 //! their first allocation fail, then their second, and so on. Each run must give the expected result or `Memory`.
 //! Recoveries and encoders run out of memory in the cases that it tries.
 ghost use Rattle.std.specs.Prelude.{◌≡◌, IfSome};
@@ -169,7 +169,7 @@ const LEFT: [Left; 3] = [
     (Fault::Memory, (3, 0, 0x01_01_01), MISSING),
 ];
 
-// `.ci/try_failures` wants each of the lines that this test writes.
+// `tests/failures` wants each of the lines that this test writes.
 #[test]
 fn a_refused_growth_of_work_leaves_its_pieces_missing(rt: HostRuntime) {
     if let Some(left) = left_by_first(&rt) {

@@ -37,8 +37,8 @@ pub seal_log-requires-clause-header : goal.seal_log-requires-clause-header
 seal_log-requires-clause-header c =
     let header = c.in-Some.opened.header in
     let is = rw c.in-Some.is at c.in_ok-opened.ensures.opened in
-    resumed_fits c.args.cutoff c.args.salt header (record header { salt = c.args.salt; from = c.min-from.result }) is.begins.is_header c.ranges.cutoff.fits c.ranges.salt.fits
-    (λ i. record header { salt = c.args.salt; from = c.min-from.ensures i })
+    resumed_fits c.args.cutoff c.args.salt c.args.workers header (record header { salt = c.args.salt; workers = c.args.workers; from = c.min-from.result }) is.begins.is_header c.ranges.cutoff.fits c.ranges.salt.fits c.ranges.workers.fits
+    (λ i. record header { salt = c.args.salt; workers = c.args.workers; from = c.min-from.ensures i })
 
 pub returns-clause-log : goal.returns-clause-log
 returns-clause-log c =
@@ -51,17 +51,17 @@ returns-clause-log c =
     let sealed = c.in_ok-seal_log.ensures in
     let whole = λ (e : opened.end ≡ Damaged). false≢true (sym c.if-eq.false ∙ (rw e at c.eq.ensures)) in
     let begins = c.in_ok-text.ensures.header (text_head header) (joined is.bodies) (text_is_head header is.begins.is_header) (c.deref.ensures.value ∙ is.is_text) in
-    let again = sealed_again bytes opened c.args.cutoff c.args.salt c.deref.result.now new.front.items new.records.now new.marks.items file (record header { salt = c.args.salt; from = c.min-from.result }) sealed.0 is whole
-    c.deref.ensures.value c.in_ok-text.ensures.log begins (λ i. record header { salt = c.args.salt; from = c.min-from.ensures i }) sealed.1
+    let again = sealed_again bytes opened c.args.cutoff c.args.salt c.args.workers c.deref.result.now new.front.items new.records.now new.marks.items file (record header { salt = c.args.salt; workers = c.args.workers; from = c.min-from.result }) sealed.0 is whole
+    c.deref.ensures.value c.in_ok-text.ensures.log begins (λ i. record header { salt = c.args.salt; workers = c.args.workers; from = c.min-from.ensures i }) sealed.1
     (sealed.2 ∙ ap (λ (l : List ℕ). new.records.now ++ l) c.deref-2.ensures.value) in
-    inr (subst (λ (l : List ℕ). IsSealedAgain c.args.cutoff c.args.salt bytes l) (sym (append-nil file) ∙ ap (λ (l : List ℕ). file ++ l) (sym c.new.ensures.items)) again)
+    inr (subst (λ (l : List ℕ). IsSealedAgain c.args.cutoff c.args.salt c.args.workers bytes l) (sym (append-nil file) ∙ ap (λ (l : List ℕ). file ++ l) (sym c.new.ensures.items)) again)
 
 pub returns-clause-small : goal.returns-clause-small
 returns-clause-small c sealed =
     let file = c.in_ok-seal_log.field-0.items in
     let made = c.in_ok-seal_log.ensures in
     subst HasSmallBlocks (sym (append-nil file) ∙ ap (λ (l : List ℕ). file ++ l) (sym c.new.ensures.items))
-    (record { header = record c.in-Some.opened.header { salt = c.args.salt; from = c.min-from.result }; bodies = made.0; is_file = made.1; are_small = made.3 })
+    (record { header = record c.in-Some.opened.header { salt = c.args.salt; workers = c.args.workers; from = c.min-from.result }; bodies = made.0; is_file = made.1; are_small = made.3 })
 
 pub returns-clause-dropped : goal.returns-clause-dropped
 returns-clause-dropped c log reading =
