@@ -402,7 +402,8 @@ static void *write_checkpoints(void *given) {
 /* A log that the last server left. */
 struct left {
     uint32_t worker, segment;
-    uint8_t *bytes; /* then those that replace it */
+    uint32_t workers; /* that its header says */
+    uint8_t *bytes;   /* then those that replace it */
     size_t length;
     mode_t mode;
     mtr_resumed resumed;
@@ -532,12 +533,15 @@ static bool read_all(const mtr_host *host, struct found *found, mtr_place *input
     mode_t mode = 0;
     for (size_t n = 0; n < found->log_count; n++) {
         mtr_place feed = {0};
+        mtr_log_front front = {0};
         struct left *log = &found->logs[n];
         name_log(log->worker, log->segment, name);
         log->bytes = read_file(host, name, &log->length, &log->mode);
         if (log->bytes == NULL || !is_named(log->bytes, log->length, log, 0, name) || !is_done(mtr_feed_log(&feed), name) ||
             !add(inputs, &feed, log->bytes, log->length, name))
             return false;
+        mtr_read_log_header(log->bytes, log->length, &front);
+        log->workers = front.workers;
     }
     for (size_t n = 0; n < found->part_count; n++) {
         mtr_place feed = {0};
@@ -658,8 +662,21 @@ static void write_end(const struct found *found, uint64_t cutoff, FILE *lines) {
     fprintf(lines, "%s ends at %" PRIu64 "\n", name, cutoff);
 }
 
+/* Writes that there are fewer writers than a header says. A header counts workers whose files have their names, and a worker's
+ * last file is never deleted. So no crash leaves fewer. */
+static void write_fewer(const struct found *found, const mtr_report *report, FILE *lines) {
+    uint32_t most = 0;
+    for (size_t n = 0; n < found->log_count; n++)
+        if (is_newest(found, n) && found->logs[n].workers > most)
+            most = found->logs[n].workers;
+    const char *s = report->writers == 1 ? "" : "s";
+    if (report->writers < most)
+        fprintf(lines, "%" PRIu64 " writer%s, but a header says %" PRIu32 "\n", report->writers, s, most);
+}
+
 /* Writes a line for each loss of the logs. */
 static bool write_log_losses(const mtr_host *host, struct found *found, const mtr_report *report, FILE *lines) {
+    const char *advice = host->settings.accept_loss ? "" : " (run mtrecover resume first)";
     char name[NAME];
     for (size_t n = 0; n < found->log_count; n++)
         if (!read_ending(host, &found->logs[n]))
@@ -683,8 +700,8 @@ static bool write_log_losses(const mtr_host *host, struct found *found, const mt
         uint64_t from = log->ending.from, end = follows ? log[-1].ending.last : UINT64_MAX;
         if (from > report->begin && end < from && end < report->cutoff)
             fprintf(lines, "%s: a hole from %" PRIu64 " to %" PRIu64 " is before it\n", name, end, from);
-        if (log->ending.goes_on)
-            fprintf(lines, "%s: records follow its torn tail\n", name);
+        if (log->ending.goes_on) /* perhaps bytes of a value in a torn record of format 3: resume knows these */
+            fprintf(lines, "%s: records follow its torn tail%s\n", name, advice);
     }
     return true;
 }
@@ -702,6 +719,7 @@ static bool is_broken(const struct found *found, size_t part, mtr_place *store) 
 
 /* Writes a line for each loss that no crash explains. */
 static bool write_losses(const mtr_host *host, struct found *found, mtr_place *store, const mtr_report *report, FILE *lines) {
+    write_fewer(found, report, lines);
     if (is_suspect(host, found, report) && !write_log_losses(host, found, report, lines))
         return false;
     for (size_t n = 0; n < found->part_count; n++)

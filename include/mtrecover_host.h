@@ -45,8 +45,10 @@ typedef struct mtr_host_settings {
  *
  * - a log with more than 16 marks at or past the cutoff; and, if max_late is not 0, more than max_late updates at or past
  *   the cutoff. A log that was put back from a copy, or was cut short, leaves such marks and updates in the other logs.
+ * - fewer writers than a header of format 4 says: all files of a worker are missing;
  * - a hole before a segment;
- * - records behind a torn tail;
+ * - records behind a torn tail. If another server wrote segments of format 3, perhaps nothing is lost: run `mtrecover resume`
+ *   before the first start of a host over them;
  * - a broken part of a checkpoint that is newer than the chosen checkpoint.
  *
  * If the call refuses, put the lost bytes back. If accept_loss is true, the host goes on without them, and notes in the file

@@ -461,6 +461,13 @@ void lay(const char *name, const void *bytes, size_t length) {
     disk->kept = disk->now;
 }
 
+void lose(const char *begin) {
+    for (unsigned n = disk->now.count; n-- > 0;)
+        if (strncmp(disk->now.at[n].text, begin, strlen(begin)) == 0)
+            remove_name(&disk->now, disk->now.at[n].text);
+    disk->kept = disk->now;
+}
+
 const uint8_t *bytes_of(const char *name, size_t *length) {
     int at = find(&disk->now, name);
     if (at < 0)

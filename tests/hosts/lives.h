@@ -41,6 +41,8 @@ void create_machine(void);
 void begin_machine(uint64_t seed);
 /* Puts a file there, in place of the one of this name. */
 void lay(const char *name, const void *bytes, size_t length);
+/* Takes the files away whose names begin so. */
+void lose(const char *begin);
 /* The bytes of a file, or NULL if there is none. */
 const uint8_t *bytes_of(const char *name, size_t *length);
 /* A number that another disk hardly has. */

@@ -13,7 +13,8 @@ enum { KEYS = 60, MANY = 1 << 20 };
 
 /* What the steps of a trial share. */
 static struct trial {
-    unsigned updates;                /* that a server puts, one after the other */
+    unsigned logs;                   /* of a server */
+    unsigned updates;                /* that it puts, one after the other */
     uint64_t segment, checkpoint;
     bool waits, falls, accepts_loss; /* each update; the keys of checkpoints; the host */
     unsigned recovered;              /* so many keys */
@@ -37,17 +38,17 @@ bool entry_at(unsigned number, struct entry *entry) {
     return number < KEYS;
 }
 
-/* Puts updates to two logs by turns, and ends. Half of the keys are put once, so that after a while they stand in checkpoints
+/* Puts updates to its logs by turns, and ends. Half of the keys are put once, so that after a while they stand in checkpoints
  * alone. Its values are long, but for a server that does not make checkpoints. */
 static bool serve(void) {
     uint64_t last = 0;
-    bool is_done = host_open(2, trial->segment, trial->checkpoint, false, &last) && host_start();
+    bool is_done = host_open(trial->logs, trial->segment, trial->checkpoint, false, &last) && host_start();
     for (unsigned n = 0; n < trial->updates && is_done; n++) {
         unsigned number = n < KEYS ? n : n % (KEYS / 2);
         struct entry *entry = &table[number];
         snprintf(entry->key, sizeof entry->key, "key%02u", number);
         snprintf(entry->value, sizeof entry->value, "%0*u", trial->checkpoint < MANY ? 199 : 10, n);
-        is_done = host_put(n % 2, entry) && (!trial->waits || host_wait(entry->version));
+        is_done = host_put(n % trial->logs, entry) && (!trial->waits || host_wait(entry->version));
         for (int turn = 0; turn < 100 && !trial->waits; turn++)
             pass();
     }
@@ -56,7 +57,7 @@ static bool serve(void) {
     return is_done && host_close();
 }
 
-/* Starts, and ends. */
+/* Starts with two logs, or more if there are more, and ends. */
 static bool open_it(void) {
     trial->recovered = 0;
     return host_open(2, trial->segment, trial->checkpoint, trial->accepts_loss, &trial->last) && host_start() && host_close();
@@ -88,7 +89,7 @@ static void begin(void) {
     begin_machine(1);
     machine->loyalty = 4;
     machine->slowness = 0;
-    *trial = (struct trial){.segment = MANY, .checkpoint = MANY, .waits = true};
+    *trial = (struct trial){.logs = 2, .segment = MANY, .checkpoint = MANY, .waits = true};
 }
 
 static bool serves(unsigned updates) {
@@ -134,6 +135,31 @@ static void try_older_copy(void) {
     lay("1-0.mtl", copy, length);
     check_loss("an older copy of a log", "0-0.mtl: 401 marks at or past the cutoff; 1-0.mtl ends at 42\n");
     check("its cutoff", trial->last == 41);
+}
+
+/* All segments of a worker are gone, and those of two others are there. These two go on: their next segments count them alone. */
+static void try_lost_worker(const char *worker, uint64_t segment) {
+    begin();
+    trial->segment = segment;
+    trial->logs = 3;
+    check("a server of three workers", serves(12) && run(open_it));
+    lose(worker);
+    check_loss("the loss of a worker", "2 writers, but a header says 3\n");
+    trial->logs = 2;
+    check("a server of the two that are left", serves(12));
+    check("a start after it", run(open_it) && has("LOSS", "2 writers, but a header says 3\n"));
+}
+
+/* A crash while the first file of a worker is made, at one of the first calls for it, or at the call after that. */
+static void try_begun_log(void) {
+    for (uint64_t seed = 1; seed <= 32; seed++) {
+        begin();
+        machine->random = seed;
+        machine->crash = (struct event){ANY, "1-0.mtl", 1 + seed % 8, seed / 8 % 2};
+        check("a server that crashes as it begins a log", serves(4));
+        machine->crash.left = 0;
+        check("a start after a log was being begun", run(open_it));
+    }
 }
 
 /* A segment has two takes. Those of segment 0 are for the stamps 2 and 3, so segment 1 begins at its last mark, 4. */
@@ -227,6 +253,10 @@ int main(void) {
     create_machine();
     trial = mmap(NULL, sizeof *trial, PROT_READ | PROT_WRITE, MAP_SHARED | MAP_ANONYMOUS, -1, 0);
     try_older_copy();
+    try_lost_worker("0-", 1);
+    try_lost_worker("1-", 1);
+    try_lost_worker("2-", MANY);
+    try_begun_log();
     try_hole();
     try_parts();
     try_records_behind();

@@ -269,8 +269,10 @@ pub struct Opened {
 ///
 /// - a log with more than 16 marks at or past the cutoff; and, with [`Settings::max_late`], more late updates than that
 ///   number. A log that was put back from a copy, or was cut short, leaves such marks and updates in the other logs.
+/// - fewer writers than a header of format 4 says: all files of a worker are missing;
 /// - a hole before a segment;
-/// - records behind a torn tail;
+/// - records behind a torn tail. If another server wrote segments of format 3, perhaps nothing is lost: run `mtrecover resume`
+///   before the first start of a host over them;
 /// - a broken part of a checkpoint that is newer than the chosen checkpoint.
 ///
 /// If `open` refuses, put the lost bytes back. With [`Settings::accept_loss`], the host goes on without them, and notes in the
@@ -297,6 +299,8 @@ fn begin(settings: Settings, folder: Folder) -> Result<Opened, HostError> {
 /// A log that the last server left.
 struct Old {
     segment: Segment,
+    /// The number of workers that its header says.
+    workers: u32,
     /// The bytes of the log, and later the bytes that replace them.
     bytes: Vec<u8>,
     permissions: Permissions,
@@ -352,7 +356,8 @@ fn recover(folder: &Folder, found: &Found) -> Result<(Store, Vec<Old>), HostErro
         };
         expect_own(is_own, &name)?;
         add(&mut inputs, Feed::log(), &bytes).of(&name)?;
-        logs.push(Old { segment, bytes, permissions });
+        let workers = records::workers_said(&bytes);
+        logs.push(Old { segment, workers, bytes, permissions });
     }
     for &number in &found.parts {
         let name = name_of_part(number);
@@ -435,7 +440,10 @@ struct Losses<'a> {
 impl Losses<'_> {
     /// Returns a line for each loss that no crash explains.
     fn lines(&self, parts: &[u32]) -> Result<Vec<String>, HostError> {
-        let mut lines = if self.is_suspect() { self.lines_of_logs()? } else { Vec::new() };
+        let mut lines = Vec::from_iter(self.line_of_writers());
+        if self.is_suspect() {
+            lines.extend(self.lines_of_logs()?);
+        }
         for (part, &number) in (0..).zip(parts) {
             let is_newer = self.report.checkpoint.map_or(true, |chosen| u64::from(number) > chosen);
             // A part got its name whole, so that no crash broke it.
@@ -444,6 +452,20 @@ impl Losses<'_> {
             }
         }
         Ok(lines)
+    }
+
+    fn is_newest(&self, n: usize) -> bool {
+        self.old.get(n + 1).map_or(true, |next| next.segment.worker != self.old[n].segment.worker)
+    }
+
+    /// Returns the line that there are fewer writers than a header says. A header counts workers whose files have their names,
+    /// and a worker's last file is never deleted. So no crash leaves fewer.
+    fn line_of_writers(&self) -> Option<String> {
+        let newest = (0..self.old.len()).filter(|&n| self.is_newest(n));
+        let most = newest.map(|n| self.old[n].workers).max().unwrap_or(0);
+        let writers = self.report.writers;
+        let s = if writers == 1 { "" } else { "s" };
+        (writers < most.into()).then(|| format!("{writers} writer{s}, but a header says {most}"))
     }
 
     fn is_late(&self) -> bool {
@@ -466,8 +488,7 @@ impl Losses<'_> {
             let name = name_of_log(log.segment);
             endings.push(records::log_ending(&self.folder.read(&name)?.0).of(&name)?);
         }
-        let is_newest = |n: usize| old.get(n + 1).map_or(true, |next| next.segment.worker != old[n].segment.worker);
-        let least = (0..old.len()).find(|&n| is_newest(n) && endings[n].last == report.cutoff);
+        let least = (0..old.len()).find(|&n| self.is_newest(n) && endings[n].last == report.cutoff);
         let end = format!("{} ends at {}", least.map_or(String::new(), |n| name_of_log(old[n].segment)), report.cutoff);
         let mut lines = Vec::new();
         if self.is_late() {
@@ -490,7 +511,9 @@ impl Losses<'_> {
                 lines.push(format!("{name}: a hole from {last} to {from} is before it"));
             }
             if ending.goes_on {
-                lines.push(format!("{name}: records follow its torn tail"));
+                // Perhaps these are bytes of a value in a torn record of format 3. `mtrecover resume` knows such records.
+                let advice = if self.settings.accept_loss { "" } else { " (run mtrecover resume first)" };
+                lines.push(format!("{name}: records follow its torn tail{advice}"));
             }
         }
         Ok(lines)
