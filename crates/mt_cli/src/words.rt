@@ -1,13 +1,13 @@
 //! Reads the arguments.
 ghost use Rattle.std.specs.Prelude.{◌≤◌, IfErr};
 
-use crate::explaining::{or_tell, tell};
+use crate::explaining::or_tell;
 use crate::grammar::{
     ACCEPT_LOSS, AT, BELOW, CHART, COLUMNS, COUNT, COUNT_KEYS, DRY_RUN, END, ERRORS, EXISTS,
     FILE_BYTES, FILES, FOLDER, FROM, HEADER, JSON, KEY, LIMIT, LOG_OR_PART, MAX_LATE, MOST_TEXT,
-    NO_LOGS, NO_VALUE, NUMBER, OUT, OUTPUT, PART_LIMIT, PIECES, PREFIX, PROGRESS, RECORD_KEY,
-    SHELL, SKIP, STATS, STATUS, STRICT, STRICT_RESUME, STRICT_SHELL, TEXT, TO, VERBOSE, WIDTH,
-    WORKERS, WRITERS, grammar,
+    NO_LOGS, NO_VALUE, NUMBER, OUT, OUTPUT, PART_LIMIT, PIECES, PREFIX, PROGRESS, RECORD_KEY, SKIP,
+    STATS, STATUS, STRICT, STRICT_RESUME, STRICT_SHELL, TEXT, TO, VERBOSE, WIDTH, WORKERS, WRITERS,
+    grammar,
 };
 use crate::listing::Names;
 use crate::loss::Budget;
@@ -17,7 +17,6 @@ use crate::request::{
     CheckForm, Command, Cut, FileCommand, FileQuery, Folder, FolderCommand, NewFolder, Question,
     Range, Resume, Shell, StoreQuery, Trace,
 };
-use crate::texts::tell_text;
 use clap::ArgMatches;
 use clap::error::ErrorKind;
 use hex::FromHexError;
@@ -39,27 +38,9 @@ pub fn command<'a, R: AllocGlobal, O: Write, E: Write>(
 ) -> Result<Command<'a>, u8>
     ensures status { IfErr result (λ status. status ≤ 3) }
 {
-    // The parser has no options for `help`.
-    match words {
-        [help, man] if help.as_str() == "help" && man.as_str() == "--man" => {
-            return Err(tell_text(rt.alloc(), None, out, err));
-        }
-        _ => {}
-    }
     match parse(rt.alloc(), words) {
-        Ok(matches) => match shell_of(&matches) {
-            Some(shell) => Err(tell_text(rt.alloc(), Some(shell), out, err)),
-            None => read_or_tell(rt.alloc(), &matches, at_terminal, err),
-        },
+        Ok(matches) => read_or_tell(rt.alloc(), &matches, at_terminal, err),
         Err(error) => Err(tell_error(rt.alloc(), &error, false, None, out, err)),
-    }
-}
-
-/// Returns the shell for which completions are to be printed, if they are.
-fn shell_of<'a>(matches: &ArgMatches<'a>) -> Option<&'a str> {
-    match matches.subcommand() {
-        Some(("completions", matches)) => matches.get_str(SHELL.name),
-        _ => None,
     }
 }
 
