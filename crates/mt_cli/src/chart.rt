@@ -3,6 +3,7 @@ ghost use Rattle.std.specs.Prelude.{◌<◌};
 
 use crate::checked::{Checked, CheckedLog};
 use crate::fates::{Fate, numbers_of};
+use crate::folding::{USUAL_WIDTH, width_of, write_blanks};
 use crate::host::{Host, Run};
 use crate::row::{Cell, Field, write_row};
 use crate::sealed::text_in;
@@ -11,9 +12,6 @@ use mt_text::Shown;
 use mt_words::{Fault, Memory};
 use std::alloc::{AllocError, Global};
 use std::io::{self, Write};
-
-/// The width of a line without another, in characters.
-const USUAL_WIDTH: u64 = 80;
 
 /// The fewest cells of an axis. A line gets wider if it must.
 const FEWEST_CELLS: usize = 10;
@@ -302,25 +300,12 @@ fn note_of_log(
     Ok(state)
 }
 
-/// Returns the number of characters of a text.
-fn width_of(text: &str) -> usize {
-    text.chars().count()
-}
-
 /// Returns the number of digits of a number.
 fn digits_of(number: u64) -> usize {
     match number.checked_ilog10() {
         Some(log) => log as usize + 1,
         None => 1,
     }
-}
-
-/// Prints `count` blanks. Err: write error.
-fn write_blanks<W: Write>(count: usize, out: &mut W) -> io::Result<()> {
-    for _ in 0..count {
-        out.write_all(b" ")?;
-    }
-    Ok(())
 }
 
 /// The pieces of a log that are read to find its first record, which has fewer bytes than these.

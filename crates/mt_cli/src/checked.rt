@@ -5,8 +5,9 @@ use crate::ending::{Again, Ending};
 use crate::fates::{Fate, PartState, numbers_of};
 use crate::flaws::Fall;
 use crate::heads::continued;
-use crate::row::{Cell, Field, write_row};
+use crate::row::{Cell, Field};
 use crate::sealed::PART_HEADER;
+use crate::sheet::Sheet;
 use mt_record::{Head, LogFront, Rest, Segment};
 use mt_recover::{LogCheck, Refusal, Start};
 use mt_scan::writer_count;
@@ -76,17 +77,19 @@ impl<'a> Checked<'a> {
     pub fn write<W: Write>(
         &self,
         alloc: Global,
-        is_json: bool,
-        out: &mut W,
+        sheet: &mut Sheet<'_, W>,
     ) -> Result<(), Refusal<'static>> {
         for (number, log) in self.logs.iter().enumerate() {
-            write_row(&log.fields(number, self.start.is_ok()), is_json, out)?;
+            let is_good = log.is_good() && !self.is_at_fault(number);
+            sheet.judged(&log.fields(number, self.start.is_ok()), is_good)?;
         }
         for (number, part) in self.parts.iter().enumerate() {
-            write_row(&part.fields(number), is_json, out)?;
+            let is_good = matches!(part.state, PartState::Whole(_));
+            sheet.judged(&part.fields(number), is_good)?;
         }
         for number in &numbers_of(alloc, &self.parts)? {
-            write_row(&Fate::of(*number, self).fields(), is_json, out)?;
+            let fate = Fate::of(*number, self);
+            sheet.judged(&fate.fields(), fate.is_good())?;
         }
         if let Ok(start) = &self.start {
             let row = [
@@ -97,9 +100,24 @@ impl<'a> Checked<'a> {
                 ("last", Cell::Number(Some(self.last_up_to(u64::MAX)))),
                 ("version", Cell::Number(Some(self.version()))),
             ];
-            write_row(&row, is_json, out)?;
+            sheet.row(&row)?;
         }
         Ok(())
+    }
+
+    /// Returns whether recovery names a fault of the log of this number.
+    fn is_at_fault(&self, number: usize) -> bool {
+        match &self.start {
+            Err(
+                Fault::Header { log }
+                | Fault::Record { log, .. }
+                | Fault::Source { log }
+                | Fault::Doubled { log }
+                | Fault::Torn { log }
+                | Fault::Gap { log },
+            ) => *log == number,
+            _ => false,
+        }
     }
 
     /// Returns the first file that ends at the cutoff, as does the log that it belongs to. Of a worker's log it is the newest
@@ -335,6 +353,15 @@ impl CheckedLog<'_> {
     /// Returns whether it has a complete record that is no mark.
     pub fn has_updates(&self) -> bool {
         matches!(&self.check, Ok(check) if check.front.count > check.marks)
+    }
+
+    /// Returns whether it is whole, no update of it is late, and no hole is before it.
+    fn is_good(&self) -> bool {
+        let is_whole = match &self.check {
+            Ok(check) => check.front.rest == Rest::Nothing && check.late == 0,
+            Err(_) => false,
+        };
+        is_whole && self.hole.is_none()
     }
 
     /// Returns whether it ends in a torn tail.

@@ -13,6 +13,7 @@ use crate::progress::{Meter, count_all};
 use crate::request::CheckForm;
 use crate::salvaging::PartPieces;
 use crate::sealed::{Sealed, UNKNOWN_SEGMENT};
+use crate::sheet::{Screen, Sheet};
 use mt_record::{Head, Rest, encode_head};
 use mt_recover::{
     Failure, LogCheck, Refusal, Window, check_logs, check_parts, fronts_of, hole_before, start_of,
@@ -31,22 +32,14 @@ impl<'a, R: Host> Run<'a, R> {
     pub fn check<O: Write, E: Write + Send>(
         &self,
         form: CheckForm,
+        screen: Option<Screen>,
         out: &mut O,
         err: &mut E,
     ) -> Result<Option<Caveat>, Halt<'a>> {
         let alloc = self.rt.alloc();
         let mut checked = self.check_all(err)?;
         self.find_copies(&mut checked)?;
-        let mut out = BufWriter::with_capacity(alloc, PRINTED_AT_ONCE, out)?;
-        match form {
-            CheckForm::Chart(width) => self.chart(&checked)?.write(width, &mut out)?,
-            CheckForm::Spans => self.chart(&checked)?.write_json(&mut out)?,
-            CheckForm::Lines | CheckForm::Json => {
-                checked.write(alloc, form == CheckForm::Json, &mut out)?;
-                self.write_ways(&checked, form == CheckForm::Json, &mut out)?;
-            }
-        }
-        out.flush()?;
+        self.write_checked(&checked, form, screen, out)?;
         if self.folder.is_verbose {
             checked.tell_hints(alloc, err)?;
             self.tell_late(&checked, err)?;
@@ -63,6 +56,29 @@ impl<'a, R: Host> Run<'a, R> {
         // Its lines have what to try.
         caveat.tell(err);
         Ok(Some(Caveat::No))
+    }
+
+    /// Prints what was found, in this form, through a buffer. Lines fit the terminal, if there is one.
+    fn write_checked<O: Write>(
+        &self,
+        checked: &Checked<'a>,
+        form: CheckForm,
+        screen: Option<Screen>,
+        out: &mut O,
+    ) -> Result<(), Refusal<'static>> {
+        let alloc = self.rt.alloc();
+        let mut out = BufWriter::with_capacity(alloc, PRINTED_AT_ONCE, out)?;
+        match form {
+            CheckForm::Chart(width) => self.chart(checked)?.write(width, &mut out)?,
+            CheckForm::Spans => self.chart(checked)?.write_json(&mut out)?,
+            CheckForm::Lines | CheckForm::Json => {
+                let is_json = form == CheckForm::Json;
+                let mut sheet = Sheet::new(alloc, is_json, screen, &mut out);
+                checked.write(alloc, &mut sheet)?;
+                self.write_ways(checked, &mut sheet)?;
+            }
+        }
+        Ok(out.flush()?)
     }
 
     /// Checks all logs and parts. If there is a cutoff, the logs are read once more, to count what is late; the bytes of a pipe are

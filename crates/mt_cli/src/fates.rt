@@ -142,6 +142,14 @@ impl Fate {
         }
     }
 
+    /// Returns whether it is valid, as far as is known, and ends below the cutoff.
+    pub fn is_good(&self) -> bool {
+        match self.word {
+            "chosen" | "older" | "unjudged" => true,
+            _ => false,
+        }
+    }
+
     /// Returns its line.
     pub fn fields(&self) -> [Field<'static>; 5] {
         let (begin, end) = match self.first {

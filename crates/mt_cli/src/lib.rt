@@ -10,7 +10,7 @@
 //!
 //! ```
 //! let words = vec![in rt.alloc(); "report".to_string(rt.alloc())?, folder]?;
-//! let around = Surroundings { at_terminal: false, prints_at_terminal: false, columns: None };
+//! let around = Surroundings { at_terminal: false, prints_at_terminal: false, columns: None, takes_colours: false };
 //! let status = run_words(rt, &words, input, around, out, err);
 //! ```
 //!
@@ -31,6 +31,7 @@ mod explaining;
 mod fates;
 mod filing;
 mod flaws;
+mod folding;
 mod grammar;
 mod halt;
 mod headless;
@@ -53,6 +54,7 @@ mod running;
 mod salvaging;
 mod saving;
 mod sealed;
+mod sheet;
 mod shell;
 mod stats;
 mod stop;

@@ -3,6 +3,7 @@ ghost use Rattle.std.specs.Prelude.{◌≤◌, IfErr, IfSome};
 ghost use Rattle.mt_cli.specs.Questions.{AsksForKey};
 
 use crate::explaining::{or_tell, tell};
+use crate::folding::{USUAL_WIDTH, write_folded};
 use crate::grammar::questions;
 use crate::listing::Names;
 use crate::request::Question;
@@ -27,7 +28,7 @@ pub fn question<O: Write, E: Write>(
 {
     match parse(alloc, words) {
         Ok(matches) => or_tell(read(alloc, &matches), names, err),
-        Err(error) => Err(tell_error(alloc, &error, true, names, out, err)),
+        Err(error) => Err(tell_error(alloc, &error, None, names, out, err)),
     }
 }
 
@@ -43,11 +44,12 @@ fn read(alloc: Global, matches: &ArgMatches<'_>) -> Result<Question, Refusal<'st
     question_of(alloc, name, matches)
 }
 
-/// Prints what the parser reports, and returns the exit status: help on `out`, an error on `err`, in a shell as one line.
+/// Prints what the parser reports, and returns the exit status: help on `out`, in lines of this width, and an error on `err`.
+/// Without a width this is in a shell: help has the usual width, and an error is one line.
 pub fn tell_error<O: Write, E: Write>(
     alloc: Global,
     error: &clap::Error,
-    in_shell: bool,
+    width: Option<usize>,
     names: Option<&Names>,
     out: &mut O,
     err: &mut E,
@@ -60,8 +62,18 @@ pub fn tell_error<O: Write, E: Write>(
     let Ok(text) = format!(in alloc; "{error}") else {
         return tell(&Refusal::from(Fault::Memory), names, err);
     };
+    let mut folded = Vec::new(alloc);
+    if write_folded(
+        text.as_str(),
+        width.unwrap_or(USUAL_WIDTH as usize),
+        &mut folded,
+    )
+    .is_err()
+    {
+        return tell(&Refusal::from(Fault::Memory), names, err);
+    }
     if !error.use_stderr() {
-        let printed = match out.write_all(text.as_bytes()) {
+        let printed = match out.write_all(&folded) {
             Ok(()) => out.flush(),
             Err(error) => Err(error),
         };
@@ -71,10 +83,12 @@ pub fn tell_error<O: Write, E: Write>(
         };
     }
     // A write error does not change the status.
-    let _ = if in_shell {
-        write_paragraph(text.as_str(), err)
-    } else {
-        err.write_all(text.as_bytes())
+    let _ = match width {
+        None => write_paragraph(text.as_str(), err),
+        Some(_) if error.kind() == ErrorKind::DisplayHelpOnMissingArgumentOrSubcommand => {
+            err.write_all(&folded)
+        }
+        Some(_) => err.write_all(text.as_bytes()),
     };
     2
 }

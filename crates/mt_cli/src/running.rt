@@ -3,11 +3,13 @@ ghost use Rattle.std.specs.Prelude.{◌≤◌};
 
 use crate::explaining::tell;
 use crate::filing::answer_file;
+use crate::folding::USUAL_WIDTH;
 use crate::grammar::{GREATEST_WIDTH, LEAST_WIDTH};
 use crate::halt::Halt;
 use crate::host::{self, Host, lock_folder};
 use crate::listing::{Names, list};
 use crate::request::{Command, Folder, FolderCommand};
+use crate::sheet::Screen;
 use crate::told::Told;
 use crate::words::command;
 use mt_recover::{Failure, Refusal};
@@ -27,6 +29,7 @@ pub fn run<R: Host, I: Read + IsTerminal, O: Write + IsTerminal, E: Write + IsTe
         at_terminal: err.is_terminal(),
         prints_at_terminal: out.is_terminal(),
         columns: columns_of(rt),
+        takes_colours: takes_colours(rt),
     };
     match words_of_process(rt) {
         Ok(words) => run_words(rt, &words, input, around, out, err),
@@ -43,6 +46,27 @@ pub struct Surroundings {
     pub prints_at_terminal: bool,
     /// The number of characters of a line, if the environment says it.
     pub columns: Option<u64>,
+    /// Whether a terminal may be sent colours.
+    pub takes_colours: bool,
+}
+
+impl Surroundings {
+    /// Returns the terminal that standard output is, if it is one.
+    pub fn screen(self) -> Option<Screen> {
+        let screen = Screen {
+            width: self.columns.unwrap_or(USUAL_WIDTH) as usize,
+            has_colours: self.takes_colours,
+        };
+        self.prints_at_terminal.then_some(screen)
+    }
+
+    /// Returns the width of the lines of help: that of the terminal, or else the usual one.
+    pub fn help_width(self) -> usize {
+        match self.screen() {
+            Some(screen) => screen.width,
+            None => USUAL_WIDTH as usize,
+        }
+    }
 }
 
 /// Returns the number of characters of a line, as the environment says it: `COLUMNS`, if that is a width.
@@ -52,6 +76,19 @@ fn columns_of<R: AllocGlobal + Env>(rt: &R) -> Option<u64> {
     (LEAST_WIDTH..=GREATEST_WIDTH)
         .contains(&width)
         .then_some(width)
+}
+
+/// Returns whether the environment allows colours: `NO_COLOR` is not there or is empty, and `TERM` is not `dumb`.
+fn takes_colours<R: AllocGlobal + Env>(rt: &R) -> bool {
+    let is_refused = match env::var(rt, "NO_COLOR") {
+        Ok(word) => !word.is_empty(),
+        Err(_) => false,
+    };
+    let is_dumb = match env::var(rt, "TERM") {
+        Ok(word) => word.as_str() == "dumb",
+        Err(_) => false,
+    };
+    !is_refused && !is_dumb
 }
 
 /// Reads the arguments of the process after the name of the program.
@@ -72,13 +109,16 @@ pub fn run_words<R: Host, I: Read + IsTerminal, O: Write, E: Write + Send>(
     ensures status { result ≤ 5 }
 {
     let is_json = words.iter().any(|word| word.as_str() == "--json");
-    let at_terminal = around.at_terminal && !is_json;
+    let around = Surroundings {
+        at_terminal: around.at_terminal && !is_json,
+        ..around
+    };
     let err = &mut Told::new(rt.alloc(), is_json, err);
-    let mut asked = match command(rt, words, at_terminal, out, err) {
+    let mut asked = match command(rt, words, around, out, err) {
         Ok(asked) => asked,
         Err(status) => return status,
     };
-    if at_terminal {
+    if around.at_terminal {
         asked.tell_at_terminal();
     }
     asked.fit(around.columns);
@@ -109,7 +149,7 @@ pub fn run_words<R: Host, I: Read + IsTerminal, O: Write, E: Write + Send>(
     let outcome = match task {
         FolderCommand::Question(question) => run.answer(question, out, err),
         FolderCommand::Audit { is_json } => run.audit(*is_json, out, err),
-        FolderCommand::Check(form) => run.check(*form, out, err),
+        FolderCommand::Check(form) => run.check(*form, around.screen(), out, err),
         FolderCommand::Resume(how) => run.resume(*how, out, err),
         FolderCommand::Checkpoint(new) => run.checkpoint(new, out, err),
         FolderCommand::Forget => run.forget(out),

@@ -9,7 +9,8 @@ use crate::heads::heads_for;
 use crate::host::{Host, Run};
 use crate::progress::{Meter, Telling};
 use crate::request::Cut;
-use crate::row::{Cell, write_row};
+use crate::row::Cell;
+use crate::sheet::Sheet;
 use mt_record::{Head, Segment};
 use mt_recover::{Failure, Refusal, Window, check_parts, fronts_of, start_of};
 use mt_scan::{Checkpoint, Slot};
@@ -66,8 +67,7 @@ impl<'a, R: Host> Run<'a, R> {
     pub fn write_ways<W: Write>(
         &self,
         checked: &Checked<'_>,
-        is_json: bool,
-        out: &mut W,
+        sheet: &mut Sheet<'_, W>,
     ) -> Result<(), Refusal<'static>> {
         let mut damaged = Vec::new(self.rt.alloc());
         for (number, log) in checked.logs.iter().enumerate() {
@@ -80,10 +80,10 @@ impl<'a, R: Host> Run<'a, R> {
         }
         if !damaged.is_empty() {
             for way in &Way::all() {
-                self.write_way(way, &damaged, is_json, out)?;
+                self.write_way(way, &damaged, sheet)?;
             }
         }
-        self.write_headers(checked, is_json, out)?;
+        self.write_headers(checked, sheet)?;
         let Ok(start) = &checked.start else {
             return Ok(());
         };
@@ -94,7 +94,7 @@ impl<'a, R: Host> Run<'a, R> {
         }
         let early = checked.ending_at(self.rt.alloc(), cutoff)?;
         let way = Way::skipping("end", None, Some(end));
-        self.write_way(&way, &early, is_json, out)
+        self.write_way(&way, &early, sheet)
     }
 
     /// Returns the greatest timestamp before the end of the ended logs that have late updates, or 0. Such a log does not hold the
@@ -117,8 +117,7 @@ impl<'a, R: Host> Run<'a, R> {
     fn write_headers<W: Write>(
         &self,
         checked: &Checked<'_>,
-        is_json: bool,
-        out: &mut W,
+        sheet: &mut Sheet<'_, W>,
     ) -> Result<(), Refusal<'static>> {
         let log = match checked.start {
             Err(Fault::Header { log } | Fault::Gap { log }) => log,
@@ -134,7 +133,7 @@ impl<'a, R: Host> Run<'a, R> {
             let end = head.from.saturating_add(1).max(checked.last_below_end());
             let end = (!found.has_records()).then_some(end);
             let way = Way::skipping("header", Some(*head), end);
-            self.write_way(&way, &[log], is_json, out)?;
+            self.write_way(&way, &[log], sheet)?;
         }
         Ok(())
     }
@@ -165,15 +164,14 @@ impl<'a, R: Host> Run<'a, R> {
         &self,
         way: &Way,
         logs: &[usize],
-        is_json: bool,
-        out: &mut W,
+        sheet: &mut Sheet<'_, W>,
     ) -> Result<(), Refusal<'static>> {
         let outlook = self.look_ahead(logs, way);
         let header = match way.how.header {
             Some(head) => Some(words_of(self.rt.alloc(), head)?),
             None => None,
         };
-        write_outlook(way, logs, &header, &outlook, is_json, out)
+        write_outlook(way, logs, &header, &outlook, sheet)
     }
 
     /// Returns what recovery would find if these logs were cut, or the fault that it would name.
@@ -261,8 +259,7 @@ fn write_outlook<'x, W: Write>(
     logs: &'x [usize],
     header: &'x Option<String>,
     outlook: &'x Result<Outlook, Refusal<'x>>,
-    is_json: bool,
-    out: &mut W,
+    sheet: &mut Sheet<'_, W>,
 ) -> Result<(), Refusal<'static>> {
     let (name, logs) = (Cell::Word(way.name), Cell::Value(Value::Positions(logs)));
     let end = Cell::Number(way.how.end);
@@ -281,7 +278,7 @@ fn write_outlook<'x, W: Write>(
                 ("late", Cell::Value(Value::Number(outlook.late))),
                 ("survivors", Cell::Value(Value::Number(outlook.survivors))),
             ];
-            Ok(write_row(&row, is_json, out)?)
+            Ok(sheet.row(&row)?)
         }
         Err(refusal) => match &refusal.failure {
             Failure::Recovery(Fault::Memory) => Err(Refusal::from(Fault::Memory)),
@@ -293,7 +290,7 @@ fn write_outlook<'x, W: Write>(
                     ("end", end),
                     ("fault", Cell::Failure(failure)),
                 ];
-                Ok(write_row(&row, is_json, out)?)
+                Ok(sheet.row(&row)?)
             }
         },
     }

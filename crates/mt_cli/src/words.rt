@@ -17,6 +17,7 @@ use crate::request::{
     CheckForm, Command, Cut, FileCommand, FileQuery, Folder, FolderCommand, NewFolder, Question,
     Range, Resume, Shell, StoreQuery, Trace,
 };
+use crate::running::Surroundings;
 use clap::ArgMatches;
 use clap::error::ErrorKind;
 use hex::FromHexError;
@@ -28,19 +29,26 @@ use std::alloc::Global;
 use std::io::{self, Write};
 
 /// Reads the request from the arguments after the name of the program. An Err is the exit status; the text is then
-/// printed: help and the version on `out`, a fault of the arguments on `err`, which may be a terminal.
+/// printed: help and the version on `out`, in lines that fit it, a fault of the arguments on `err`.
 pub fn command<'a, R: AllocGlobal, O: Write, E: Write>(
     rt: &R,
     words: &'a [String],
-    at_terminal: bool,
+    around: Surroundings,
     out: &mut O,
     err: &mut E,
 ) -> Result<Command<'a>, u8>
     ensures status { IfErr result (λ status. status ≤ 3) }
 {
     match parse(rt.alloc(), words) {
-        Ok(matches) => read_or_tell(rt.alloc(), &matches, at_terminal, err),
-        Err(error) => Err(tell_error(rt.alloc(), &error, false, None, out, err)),
+        Ok(matches) => read_or_tell(rt.alloc(), &matches, around.at_terminal, err),
+        Err(error) => Err(tell_error(
+            rt.alloc(),
+            &error,
+            Some(around.help_width()),
+            None,
+            out,
+            err,
+        )),
     }
 }
 
