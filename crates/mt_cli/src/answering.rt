@@ -8,6 +8,7 @@ ghost use Rattle.mt_cli.specs.Answers.{IsTextOf, IsAnswer};
 ghost use Rattle.mt_cli.specs.Ranges.{range_of};
 
 use crate::caveat::{Caveat, Losses};
+use crate::closing::unless_closed;
 use crate::halt::Halt;
 use crate::host::{Host, Run};
 use crate::progress::count_inputs;
@@ -51,7 +52,7 @@ impl<'a, R: Host> Run<'a, R> {
         let recovered = self.recover(err)?;
         let mut out = BufWriter::with_capacity(self.rt.alloc(), PRINTED_AT_ONCE, out)?;
         let caveat = print_answer(&recovered, query, &mut out)?;
-        out.flush()?;
+        unless_closed(out.flush())?;
         let caveat = self.add_noted(query, caveat, recovered.report().writers, err)?;
         match (&caveat, query) {
             (Some(Caveat::Losses(_)), _) => {}

@@ -2,6 +2,7 @@
 use crate::answering::PRINTED_AT_ONCE;
 use crate::caveat::Caveat;
 use crate::checked::{Checked, CheckedFile, CheckedLog, CheckedPart};
+use crate::closing::is_closed;
 use crate::ending::{Again, Ending};
 use crate::fates::PartState;
 use crate::flaws::falls_in;
@@ -39,7 +40,10 @@ impl<'a, R: Host> Run<'a, R> {
         let alloc = self.rt.alloc();
         let mut checked = self.check_all(err)?;
         self.find_copies(&mut checked)?;
-        self.write_checked(&checked, form, screen, out)?;
+        match self.write_checked(&checked, form, screen, out) {
+            Err(refusal) if is_closed(&refusal) => {}
+            written => written?,
+        }
         if self.folder.is_verbose {
             checked.tell_hints(alloc, err)?;
             self.tell_late(&checked, err)?;

@@ -55,6 +55,7 @@ pub fn answer_file<R: Host, O: Write, E: Write>(
     };
     match answered {
         Ok(stop) => tell_stop(stop, is_verbose.then_some(path), err),
+        Err(halt) if halt.is_closed() && !query.changes_files() => 0,
         // The file is log 0.
         Err(halt) => match Names::of_log(rt.alloc(), path) {
             Ok(names) => halt.tell(is_verbose.then_some(&names), err),

@@ -24,6 +24,7 @@ mod chart;
 mod checked;
 mod checking;
 mod checkpointing;
+mod closing;
 mod copies;
 mod cutting;
 mod ending;

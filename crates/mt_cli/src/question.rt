@@ -2,6 +2,7 @@
 ghost use Rattle.std.specs.Prelude.{◌≤◌, IfErr, IfSome};
 ghost use Rattle.mt_cli.specs.Questions.{AsksForKey};
 
+use crate::closing::unless_closed;
 use crate::explaining::{or_tell, tell};
 use crate::folding::{USUAL_WIDTH, write_folded};
 use crate::grammar::questions;
@@ -77,7 +78,7 @@ pub fn tell_error<O: Write, E: Write>(
             Ok(()) => out.flush(),
             Err(error) => Err(error),
         };
-        return match printed {
+        return match unless_closed(printed) {
             Ok(()) => 0,
             Err(error) => tell(&Refusal::from(error), names, err),
         };

@@ -42,6 +42,15 @@ impl FolderCommand<'_> {
             _ => None,
         }
     }
+
+    /// Returns whether the command changes files.
+    pub fn changes_files(&self) -> bool {
+        match self {
+            FolderCommand::Resume(how) => !how.is_dry,
+            FolderCommand::Checkpoint(_) | FolderCommand::Forget => true,
+            _ => false,
+        }
+    }
 }
 
 /// A query on a file.
@@ -174,6 +183,13 @@ pub enum FileQuery<'a> {
     Stats(bool),
     /// A log of the complete records of a log, written into the file of this path if one is given.
     Cut(Cut, Option<&'a str>),
+}
+
+impl FileQuery<'_> {
+    /// Returns whether a file is written.
+    pub fn changes_files(&self) -> bool {
+        matches!(self, FileQuery::Cut(_, Some(_)))
+    }
 }
 
 /// How to cut a log, or to salvage a part.

@@ -97,7 +97,8 @@ fn words_of_process<R: AllocGlobal + Env>(rt: &R) -> io::Result<Vec<String>> {
 }
 
 /// Does what these arguments ask and returns the exit status. The name of the program is not among them. At a terminal an
-/// answer is followed by what was lost or passed over. With `--json` each line on `err` is an object, as nowhere else.
+/// answer is followed by what was lost or passed over. With `--json` each line on `err` is an object, as nowhere else. If
+/// the reader of `out` closes it early, a command that changes no file ends with the status of what it found by then.
 pub fn run_words<R: Host, I: Read + IsTerminal, O: Write, E: Write + Send>(
     rt: &R,
     words: &[String],
@@ -158,7 +159,10 @@ pub fn run_words<R: Host, I: Read + IsTerminal, O: Write, E: Write + Send>(
             Err(halt) => Err(halt),
         },
     };
-    run.end(outcome, err)
+    match outcome {
+        Err(halt) if halt.is_closed() && !task.changes_files() => 0,
+        outcome => run.end(outcome, err),
+    }
 }
 
 /// Locks the folder, as the command asks, and returns the lock and the names of its files.

@@ -6,6 +6,7 @@ ghost use Rattle.mt_cli.specs.Questions.{AsksForKey};
 
 use crate::answering::{PRINTED_AT_ONCE, print_answer};
 use crate::caveat::{Caveat, Losses};
+use crate::closing::is_closed;
 use crate::explaining::tell;
 use crate::grammar::PROMPT;
 use crate::halt::Halt;
@@ -50,9 +51,26 @@ fn ends_shell(line: &[u8]) -> bool {
     line == b"quit".as_slice() || line == b"exit".as_slice()
 }
 
-/// The output failed, which was told and ends the shell with status 3.
-#[derive(Drop)]
-struct OutputFailed;
+/// Why the output takes no more answers, which ends the shell.
+#[derive(Clone, Copy)]
+enum OutputFailed {
+    /// Its reader has closed it.
+    Closed,
+    /// It failed, which was told.
+    Told,
+}
+
+impl OutputFailed {
+    /// Returns the exit status of a shell that would otherwise have this one.
+    fn status(self, status: u8) -> u8
+        ensures { status ≤ 5 → result ≤ 5 }
+    {
+        match self {
+            OutputFailed::Closed => status,
+            OutputFailed::Told => 3,
+        }
+    }
+}
 
 /// Answers lines from one recovered store, or from the files of its folder.
 #[derive(Drop)]
@@ -63,8 +81,9 @@ struct Session<'a, 'r, R> {
 }
 
 impl<'a, 'r, R: Host> Session<'a, 'r, R> {
-    /// Answers each line of the input, before it waits for the next one, and returns the exit status. It ends early, with
-    /// status 3, if the output fails. At a terminal it asks for each line. Err: read error, or out of memory.
+    /// Answers each line of the input, before it waits for the next one, and returns the exit status. It ends early if the
+    /// output fails, with status 3, or if the reader of the output closes it. At a terminal it asks for each line. Err: read error,
+    /// or out of memory.
     fn answer_lines<I: Read + IsTerminal, O: Write, E: Write + Send>(
         &self,
         input: &mut I,
@@ -82,8 +101,10 @@ impl<'a, 'r, R: Host> Session<'a, 'r, R> {
         };
         for _ in 0..u64::MAX {
             // The next line may come only after the answers to those before.
-            if !lines.buffer().contains(&b'\n') && self.flush(out, err).is_err() {
-                return Ok(3);
+            if !lines.buffer().contains(&b'\n') {
+                if let Err(failed) = self.flush(out, err) {
+                    return Ok(failed.status(first));
+                }
             }
             if asks {
                 // A write error is passed over.
@@ -96,15 +117,16 @@ impl<'a, 'r, R: Host> Session<'a, 'r, R> {
                 Ok(line) => line,
                 Err(error) => return Err(self.unread(error)),
             };
-            let Ok(status) = self.answer_and_end(line, &text, out, err) else {
-                return Ok(3);
+            let status = match self.answer_and_end(line, &text, out, err) {
+                Ok(status) => status,
+                Err(failed) => return Ok(failed.status(first)),
             };
             if first == 0 && self.how.is_strict {
                 first = status;
             }
         }
-        if self.flush(out, err).is_err() {
-            return Ok(3);
+        if let Err(failed) = self.flush(out, err) {
+            return Ok(failed.status(first));
         }
         if asks {
             // What prints next begins a line of its own.
@@ -218,10 +240,13 @@ impl<'a, 'r, R: Host> Session<'a, 'r, R> {
         }
     }
 
-    /// Tells that the output failed.
+    /// Tells that the output failed, unless its reader has closed it.
     fn fail<E: Write>(&self, refusal: &Refusal<'_>, err: &mut E) -> OutputFailed {
+        if is_closed(refusal) {
+            return OutputFailed::Closed;
+        }
         self.tell(refusal, err);
-        OutputFailed
+        OutputFailed::Told
     }
 
     /// Answers the question of these words and returns its status.
@@ -236,19 +261,16 @@ impl<'a, 'r, R: Host> Session<'a, 'r, R> {
         let question = match question(self.run.rt.alloc(), words, self.explaining(), out, err) {
             Ok(question) => question,
             // The help that the words ask for cannot be printed.
-            Err(3) => return Err(OutputFailed),
+            Err(3) => return Err(OutputFailed::Told),
             Err(status) => return Ok(status),
         };
         match self.print(&question, out, err) {
             Ok(None) => Ok(0),
             Ok(Some(caveat)) => Ok(caveat.tell(err)),
-            Err(refusal) => {
-                let status = self.tell(&refusal, err);
-                match refusal.failure {
-                    Failure::Output => Err(OutputFailed),
-                    _ => Ok(status),
-                }
-            }
+            Err(refusal) => match refusal.failure {
+                Failure::Output => Err(self.fail(&refusal, err)),
+                _ => Ok(self.tell(&refusal, err)),
+            },
         }
     }
 

@@ -4,7 +4,7 @@
 
 use mt_recover::{Failure, Refusal, dump_files};
 use std::env;
-use std::io::{self, BufWriter, Write};
+use std::io::{self, BufWriter, ErrorKind, Write};
 use std::process::ExitCode;
 
 const HELP: &str = "\
@@ -39,13 +39,35 @@ fn main(rt: HostRuntime) -> ExitCode {
 fn run(rt: &HostRuntime) -> io::Result<u8> {
     let alloc = rt.alloc();
     let names: Vec<String> = env::args(rt)?.skip(1).collect(alloc)?;
-    let mut out = BufWriter::new(alloc, rt.stdout())?;
+    let mut out = BufWriter::new(alloc, Closable { out: rt.stdout() })?;
     let mut err = rt.stderr();
     Ok(match names.first().map(String::as_str) {
         Some("--help") => print(HELP, &mut out, &mut err),
         Some("--version") => print(VERSION, &mut out, &mut err),
         _ => dump_files(rt, names.as_slice(), &mut out, &mut err),
     })
+}
+
+/// An output that its reader may close early, as `head` does once it has its lines. What comes after that is dropped.
+#[derive(Drop)]
+struct Closable<O> {
+    out: O,
+}
+
+impl<O: Write> Write for Closable<O> {
+    fn write(&mut self, buf: &[u8]) -> io::Result<usize> {
+        match self.out.write(buf) {
+            Err(error) if error.kind() == ErrorKind::BrokenPipe => Ok(buf.len()),
+            written => written,
+        }
+    }
+
+    fn flush(&mut self) -> io::Result<()> {
+        match self.out.flush() {
+            Err(error) if error.kind() == ErrorKind::BrokenPipe => Ok(()),
+            flushed => flushed,
+        }
+    }
 }
 
 /// Prints a text and returns the exit status.
