@@ -4,6 +4,7 @@ use crate::halt::Halt;
 use crate::host::{Host, Run};
 use crate::loss::Loss;
 use crate::saving::{Site, no_file, site_of};
+use crate::told::Told;
 use mt_recover::{Failure, Refusal};
 use mt_text::Shown;
 use mt_words::{Fault, Memory};
@@ -80,8 +81,9 @@ impl<'a, R: Host> Run<'a, R> {
         true
     }
 
-    /// Prints what is noted, and deletes the notes.
-    pub fn forget<O: Write>(&self, out: &mut O) -> Result<Option<Caveat>, Halt<'a>> {
+    /// Prints what is noted, a line each or, as JSON, an object each, and then deletes the notes.
+    pub fn forget<O: Write>(&self, is_json: bool, out: &mut O) -> Result<Option<Caveat>, Halt<'a>> {
+        let out = &mut Told::new(self.rt.alloc(), is_json, out);
         let noted = match self.noted() {
             Ok(Some(noted)) => noted,
             Ok(None) => return Ok(None),

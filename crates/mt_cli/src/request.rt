@@ -29,7 +29,7 @@ pub enum FolderCommand<'a> {
     /// Writes the store as a checkpoint into a new folder.
     Checkpoint(NewFolder<'a>),
     /// Prints and deletes the notes of what was lost.
-    Forget,
+    Forget { is_json: bool },
 }
 
 impl FolderCommand<'_> {
@@ -38,7 +38,7 @@ impl FolderCommand<'_> {
         match self {
             FolderCommand::Resume(how) => Some(how.is_dry),
             FolderCommand::Checkpoint(_) => Some(true),
-            FolderCommand::Forget => Some(false),
+            FolderCommand::Forget { .. } => Some(false),
             _ => None,
         }
     }
@@ -47,7 +47,7 @@ impl FolderCommand<'_> {
     pub fn changes_files(&self) -> bool {
         match self {
             FolderCommand::Resume(how) => !how.is_dry,
-            FolderCommand::Checkpoint(_) | FolderCommand::Forget => true,
+            FolderCommand::Checkpoint(_) | FolderCommand::Forget { .. } => true,
             _ => false,
         }
     }

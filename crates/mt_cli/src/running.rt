@@ -153,7 +153,7 @@ pub fn run_words<R: Host, I: Read + IsTerminal, O: Write, E: Write + Send>(
         FolderCommand::Check(form) => run.check(*form, around.screen(), out, err),
         FolderCommand::Resume(how) => run.resume(*how, out, err),
         FolderCommand::Checkpoint(new) => run.checkpoint(new, out, err),
-        FolderCommand::Forget => run.forget(out),
+        FolderCommand::Forget { is_json } => run.forget(*is_json, out),
         FolderCommand::Shell(how) => match run.shell(*how, input, out, err) {
             Ok(status) => return status,
             Err(halt) => Err(halt),

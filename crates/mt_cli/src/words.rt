@@ -151,7 +151,9 @@ fn of_folder<'a>(
         "audit" => FolderCommand::Audit {
             is_json: matches.get_flag(JSON.name),
         },
-        "forget" => FolderCommand::Forget,
+        "forget" => FolderCommand::Forget {
+            is_json: matches.get_flag(JSON.name),
+        },
         "shell" => FolderCommand::Shell(Shell {
             is_strict: matches.get_flag(STRICT_SHELL.name),
             has_status: matches.get_flag(STATUS.name),
