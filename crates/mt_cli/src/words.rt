@@ -332,12 +332,12 @@ fn key(
     }
 }
 
-/// Decodes a key: text with escapes, or hexadecimal.
+/// Decodes a key: text with escapes; or hexadecimal, before which `0x` may stand, as `records` prints it.
 fn key_of(alloc: Global, word: &str, is_text: bool) -> Result<Key, Refusal<'static>> {
     let bytes = if is_text {
         unescape(alloc, word)?.ok_or(bad_key("it has a wrong escape"))?
     } else {
-        match hex::decode(alloc, word) {
+        match hex::decode(alloc, word.strip_prefix("0x").unwrap_or(word)) {
             Ok(bytes) => bytes,
             Err(FromHexError::OutOfMemory) => return Err(Refusal::from(Fault::Memory)),
             Err(FromHexError::OddLength) => return Err(bad_key("its digits are odd in number")),
