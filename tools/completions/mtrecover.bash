@@ -14,7 +14,7 @@ _mtrecover() {
         *,check,-*) words='--workers --files --file-bytes --verbose --progress --writers --json --chart --width --help' ;;
         *,resume,-*) words='--workers --files --file-bytes --verbose --progress --writers --json --strict --dry-run --no-logs --max-late --accept-loss --help' ;;
         *,checkpoint,-*) words='--workers --files --file-bytes --verbose --progress --writers --json --pieces --number --limit --max-late --accept-loss --help' ;;
-        *,forget,-*) words='--workers --files --file-bytes --verbose --progress --help' ;;
+        *,forget,-*) words='--workers --files --file-bytes --verbose --progress --json --help' ;;
         *,records,-*) words='--verbose --from --limit --key --at --json --stats --help' ;;
         *,cut,-*) words='--verbose --skip --header --below --end --output --json --help' ;;
     esac
