@@ -8,18 +8,18 @@ use std::io::{self, BufWriter, ErrorKind, Write};
 use std::process::ExitCode;
 
 const HELP: &str = "\
-Prints the store of update logs, without checkpoints
+Recovers the store of logs, without checkpoints, and prints its keys
 
 Usage: mtdump <FILE> [FILE ...]
 
 Arguments:
-  <FILE>  An update log (.mtl). Its position, from 0, is its number in faults
+  <FILE>  A log (.mtl). Messages call the first file log 0, the next one log 1
 
 Options, as the first argument:
       --help     Print help
       --version  Print version
 
-Every other argument is a file name: write ./--help for a file of that name.
+Every other argument is a file name. Write ./--help for a file of this name.
 
 Example: mtdump examples/a.mtl examples/b.mtl
 ";
