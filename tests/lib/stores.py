@@ -1,4 +1,4 @@
-"""Logs, parts and folders, for the scripts that try commands which write files. Their arguments are [TIMES [MTRECOVER]]."""
+"""Logs, parts and folders, for the scripts that try commands which write files. Their argument is [TIMES]."""
 import os
 import struct
 import subprocess
@@ -8,12 +8,11 @@ from pathlib import Path
 from typing import NamedTuple
 
 from lib.blocks import LOG, PART, opened, text_of
-from lib.counting import TOP
+from lib.counting import TOP, program
 from lib.formats import ERASE, GREATEST, MARK, PUT, REMOVE, Update
 from lib.torture import after_calls, told_calls
 
 TIMES = int(sys.argv[1]) if len(sys.argv) > 1 else 300
-MTRECOVER = sys.argv[2] if len(sys.argv) > 2 else TOP / "out/mtrecover"
 KEYS = [b"", b"a", b"b", b"aaaaaaaa", b"aaaaaaaab", b"aaaaaaaaaaaaaaaac"]
 
 
@@ -120,7 +119,7 @@ def random_update(rng, form, timestamp, version):
 
 
 def run(*words, **env):
-    ran = subprocess.run([MTRECOVER, *words], capture_output=True, env={**os.environ, **env}, timeout=600)
+    ran = subprocess.run([program("mtrecover"), *words], capture_output=True, env={**os.environ, **env}, timeout=600)
     return ran.returncode, ran.stdout, ran.stderr
 
 
