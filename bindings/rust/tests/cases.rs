@@ -1,4 +1,4 @@
-//! The cases of crates/mt_cases/data, which an installed package has in tests/cases, by this crate. docs/TESTING.md explains
+//! The cases of crates/mt_cases/data, which an installed package has in tests/cases, by this crate. cases/README.md explains
 //! their lines.
 
 use mtrecover::records::{self, Column, Format};
