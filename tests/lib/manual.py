@@ -40,19 +40,21 @@ def completed(command):
 
 def checks(programs):
     """Yields what is checked, each with what is wrong."""
-    program = programs["mtrecover"]
-    commands = {found[1]: found for line in lines_of(program, "--help") if (found := re.match(r"  ([a-z]\w*)  ", line))}
-    options = {command: options_of(program, command) for command in commands if command != "help"}
-    options["mtdump"] = options_of(programs["mtdump"])
-    known = set().union(*options.values())
-    for command, wanted in options.items():
-        page = TOP / "man" / ("mtdump.1" if command == "mtdump" else f"mtrecover-{command}.1")
-        lacking = wanted - options_named(page) if page.exists() else {"all"}
-        yield f"{page.name} lacks", sorted(lacking)
-        for shell, found in completed(command).items() if command != "mtdump" else ():
-            yield f"{shell}, {command}, not the options of its help", sorted(found ^ wanted)
-    for page in sorted((TOP / "man").iterdir()):
-        yield f"{page.name} names what no command takes", sorted(options_named(page) - known)
+    mtrecover = programs["mtrecover"]
+    commands = {found[1] for line in lines_of(mtrecover, "--help") if (found := re.match(r"  ([a-z]\w*)  ", line))} - {"help"}
+    taken = {f"mtrecover-{command}": options_of(mtrecover, command) for command in sorted(commands)}
+    for command in sorted(commands):
+        for shell, found in completed(command).items():
+            yield f"{shell}, {command}, not the options of its help", sorted(found ^ taken[f"mtrecover-{command}"])
+    others = {"mtdump": programs["mtdump"]} | {name: TOP / "tools" / name for name in ("mtdraw", "mtrecover-torture")}
+    taken |= {name: options_of(path) for name, path in others.items()}
+    known = set().union(*taken.values())
+    pages = {page.stem: page for page in sorted((TOP / "man").iterdir())}
+    yield "no page", sorted(taken.keys() - pages.keys())
+    for name, page in pages.items():
+        named = options_named(page)
+        yield f"{page.name} lacks", sorted(taken.get(name, set()) - named)
+        yield f"{page.name} names what no command takes", sorted(named - known)
         if shutil.which("groff"):
             yield f"{page.name}, groff", lines_of("groff", "-man", "-Tutf8", "-ww", "-z", page)
-    yield "pages", lines_of(sys.executable, TOP / "tools/pages", "--check", program)
+    yield "pages", lines_of(sys.executable, TOP / "tools/pages", "--check", mtrecover)
