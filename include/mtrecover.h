@@ -237,7 +237,8 @@ typedef struct mtr_resumed {
  * A log of format 4 is replaced by a file of format 4 with the salt `salt`, a random number that must be new for each file
  * (see the comment on formats, before mtr_log_header_4). Each block of this file has whole records: at most 32,768 bytes of
  * records, or one longer record. Its header says `workers`, the number of writers of the report. So later starts miss each
- * worker whose logs are all lost, but not a worker without which the server went on already.
+ * worker whose logs are all lost, but not a worker without which the server went on already. A server that deletes all files
+ * of a worker once its log has ended gives a lower number, such as 0.
  *
  * Room for length + length / 1024 + 33 bytes is always enough: a mark has 17 bytes, a block has 16 bytes more than its
  * records, and two neighbouring blocks together have more than 32,768 bytes of records. If the server needs a new log as

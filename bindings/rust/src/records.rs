@@ -232,7 +232,8 @@ pub fn part_footer(out: &mut Vec<u8>, end: u64, entries: u32) -> Result<(), OutO
 /// A log of format 4 is replaced by a file of format 4 with the salt `salt`, a random number that must be new for each file.
 /// The header of the new file says `workers`, the number of writers of the report
 /// ([`Report::writers`](crate::Report::writers)). So later starts miss each worker whose logs are all lost, but not a worker
-/// without which the server went on already.
+/// without which the server went on already. A server that deletes all files of a worker once its log has ended gives a lower
+/// number, such as 0.
 ///
 /// `NoLog`: the bytes are no log.
 pub fn resume_log(out: &mut Vec<u8>, log: &[u8], cutoff: u64, salt: u64, workers: u32) -> Result<Resumed, WriteError> {
