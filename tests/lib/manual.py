@@ -57,4 +57,4 @@ def checks(programs):
         yield f"{page.name} names what no command takes", sorted(named - known)
         if shutil.which("groff"):
             yield f"{page.name}, groff", lines_of("groff", "-man", "-Tutf8", "-ww", "-z", page)
-    yield "pages", lines_of(sys.executable, TOP / "tools/pages", "--check", mtrecover)
+    yield "pages", lines_of(sys.executable, TOP / "tools/pages", "--check", mtrecover, programs["mtdump"])
