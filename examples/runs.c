@@ -2,11 +2,13 @@
  * examples/server.c is a server with clients. */
 #define _POSIX_C_SOURCE 200809L
 #include "mtrecover_host.h"
+#include <fcntl.h>
 #include <pthread.h>
 #include <stdio.h>
 #include <stdlib.h>
 #include <string.h>
 #include <sys/stat.h>
+#include <unistd.h>
 
 enum { ROWS = 100, LENGTH = 64 };
 
@@ -106,6 +108,8 @@ int main(void) {
     uint64_t last = 0;
     char runs[LENGTH];
     mkdir("data", 0777);
+    int here = open(".", O_RDONLY);
+    must(here >= 0 && fsync(here) == 0 && close(here) == 0, "a crash may take the new folder back");
     must((host = mtr_host_open(&settings, &store, &last)) != NULL, "the folder does not open");
     fill(&store, last);
 

@@ -21,7 +21,7 @@ typedef struct mtr_host_part mtr_host_part;
 
 /* What a host works on, and how. */
 typedef struct mtr_host_settings {
-    const char *folder;  /* the path of the folder; the folder must exist */
+    const char *folder;  /* the path of the folder; it must exist, and its name must be synced */
     unsigned logs;       /* how many logs the host writes, each on a thread of its own */
     uint64_t segment;    /* once the file of a log has this many bytes, the next file follows */
     uint64_t checkpoint; /* once this many bytes of logs were written since the last checkpoint began, make the next one */

@@ -47,7 +47,7 @@ use crate::{Feed, Inputs, OutOfMemory, Report, Store};
 /// What a host works on, and how.
 #[derive(Clone, Debug)]
 pub struct Settings {
-    /// The path of the folder. The folder must exist.
+    /// The path of the folder. The folder must exist, and its name must be synced: a crash may take a new folder back.
     pub folder: PathBuf,
     /// How many logs the host writes, each on a thread of its own.
     pub logs: usize,
