@@ -1,5 +1,5 @@
 //! Tries the cases of the files that its arguments name. Its status is 0 if every case ends as it must and at least one
-//! holds, else 1. docs/TESTING.md describes the files. Begin with `telling.rt` and `trying.rt`.
+//! holds, else 1. cases/README.md describes the files. Begin with `telling.rt` and `trying.rt`.
 #![tactic(auto)]
 
 mod answer;
