@@ -1,6 +1,7 @@
 //! The steps of the program, from its arguments to its exit status.
 ghost use Rattle.std.specs.Prelude.{◌≤◌};
 
+use crate::caveat::Caveat;
 use crate::explaining::tell;
 use crate::filing::answer_file;
 use crate::folding::USUAL_WIDTH;
@@ -159,9 +160,17 @@ pub fn run_words<R: Host, I: Read + IsTerminal, O: Write, E: Write + Send>(
             Err(halt) => Err(halt),
         },
     };
+    if is_closed(&outcome) && !task.changes_files() {
+        return 0;
+    }
+    run.end(outcome, err)
+}
+
+/// Returns whether a command failed because the reader of its output has closed it.
+fn is_closed(outcome: &Result<Option<Caveat>, Halt<'_>>) -> bool {
     match outcome {
-        Err(halt) if halt.is_closed() && !task.changes_files() => 0,
-        outcome => run.end(outcome, err),
+        Ok(_) => false,
+        Err(halt) => halt.is_closed(),
     }
 }
 
