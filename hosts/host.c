@@ -667,7 +667,7 @@ static void write_end(const struct found *found, uint64_t cutoff, FILE *lines) {
 static void write_fewer(const struct found *found, const mtr_report *report, FILE *lines) {
     uint32_t most = 0;
     for (size_t n = 0; n < found->log_count; n++)
-        if (is_newest(found, n) && found->logs[n].workers > most)
+        if (found->logs[n].workers > most)
             most = found->logs[n].workers;
     const char *s = report->writers == 1 ? "" : "s";
     if (report->writers < most)

@@ -454,15 +454,10 @@ impl Losses<'_> {
         Ok(lines)
     }
 
-    fn is_newest(&self, n: usize) -> bool {
-        self.old.get(n + 1).map_or(true, |next| next.segment.worker != self.old[n].segment.worker)
-    }
-
     /// Returns the line that there are fewer writers than a header says. A header counts workers whose files have their names,
     /// and a worker's last file is never deleted. So no crash leaves fewer.
     fn line_of_writers(&self) -> Option<String> {
-        let newest = (0..self.old.len()).filter(|&n| self.is_newest(n));
-        let most = newest.map(|n| self.old[n].workers).max().unwrap_or(0);
+        let most = self.old.iter().map(|log| log.workers).max().unwrap_or(0);
         let writers = self.report.writers;
         let s = if writers == 1 { "" } else { "s" };
         (writers < most.into()).then(|| format!("{writers} writer{s}, but a header says {most}"))
@@ -488,7 +483,8 @@ impl Losses<'_> {
             let name = name_of_log(log.segment);
             endings.push(records::log_ending(&self.folder.read(&name)?.0).of(&name)?);
         }
-        let least = (0..old.len()).find(|&n| self.is_newest(n) && endings[n].last == report.cutoff);
+        let is_newest = |n: usize| old.get(n + 1).map_or(true, |next| next.segment.worker != old[n].segment.worker);
+        let least = (0..old.len()).find(|&n| is_newest(n) && endings[n].last == report.cutoff);
         let end = format!("{} ends at {}", least.map_or(String::new(), |n| name_of_log(old[n].segment)), report.cutoff);
         let mut lines = Vec::new();
         if self.is_late() {

@@ -24,8 +24,9 @@ impl<'a, R: Host> Run<'a, R> {
         read_notes(self.rt, &path)
     }
 
-    /// Prints each line that is noted, or that the notes cannot be read; that names are ignored; and that writers are lost, if
-    /// there are only so many. Returns that this is a caveat, unless there is another one. A write error is passed over.
+    /// Prints the notes of the folder, or that they cannot be read; that names are ignored; and that writers are lost, if the logs
+    /// are of this many writers. Returns the caveat that is given or, if there is none and something was printed, `No`. A write
+    /// error is passed over.
     pub fn tell_noted<E: Write>(
         &self,
         caveat: Option<Caveat>,

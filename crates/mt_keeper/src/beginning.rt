@@ -23,8 +23,8 @@ use std::mem;
 
 impl Keeper {
     /// Begins the log of a new worker, with a mark at the next stamp, and returns its number. Its file is to be created
-    /// (`bytes`). Its header counts this worker and those of which a file was created: whatever a crash leaves of the folder,
-    /// it has files of as many workers, if it has this one. From now on acknowledgements wait for this log. Err: no log is
+    /// (`bytes`). Its header counts this worker and each worker of which a file was created. So if a crash leaves this file, it
+    /// leaves files of as many workers as the header says. From now on acknowledgements wait for this log. Err: no log is
     /// begun.
     pub fn begin_log(&mut self, alloc: Global) -> Result<usize, KeeperFault>
         ensures step { (s : Server) → Holds self.old s → IfOk result (λ log. (log ≡ length (numbered s)) × Steps s (with_new_log s self.old.workers) self.new) }
